@@ -4,6 +4,7 @@ use Rattle.std.specs.declared.alloc.AllocError.{AllocError}
 use Rattle.io_text.specs.Reading.{most_bytes}
 use Rattle.io_text.specs.declared.fault.DeviceFault.{DeviceFault}
 use Rattle.io_text.specs.declared.fault.DeviceFault.TheVariants.{Read, Write, TooLong, Memory}
+use Rattle.protocol_lang.specs.Trees.{Tree}
 use Rattle.room_files.specs.Faults.{FaultAt}
 use Rattle.room_files.specs.Inputs.{input_says}
 use Rattle.room_files.specs.declared.outcome.Outcome.{Outcome}
@@ -28,8 +29,10 @@ use Rattle.view_transcript.specs.Transcripts.{IsTranscribed}
 use Rattle.view_page.specs.Pages.{IsPageFor, fault_among, fault_in}
 use Rattle.view_sample.specs.Sample.{IsSampleFor}
 use Rattle.view_trace.specs.Trace.{IsTraceIn}
+use Rattle.view_why.specs.Keeping.{IsKeptExplanation}
 use Rattle.view_why.specs.Why.{IsExplanationIn}
 use Rattle.bgview.specs.Ends.{written}
+use Rattle.bgview.specs.declared.request.Explaining.{Explaining}
 use Rattle.bgview.specs.declared.request.Grading.{Grading}
 use Rattle.bgview.specs.declared.request.OfInput.{OfInput}
 use Rattle.bgview.specs.declared.request.OfInput.TheVariants.{Live, Whole}
@@ -54,6 +57,26 @@ goal_text grading = grading.goal.now
 -- the script is judged by the goal that the text says
 unfoldable pub IsGradeFor : Grading → List ℕ → Result Outcome AllocError → List ℕ → Type 0
 IsGradeFor grading input ending output = (claims : List Claim) × (goal_in (goal_text grading) ≡ Ok claims) × IsGraded claims grading.most input ending output
+
+-- the task of one's own by which runs of a transcript are judged, as text
+abbrev pub judged_by : Explaining → Option (List ℕ)
+judged_by explaining = option_map (λ text. text.now) explaining.keeps
+
+-- the task is that of the text, if there is one
+abbrev pub IsTaskOf : Option (List ℕ) → Option (List Tree) → Type 0
+IsTaskOf None None = ⊤
+IsTaskOf (Some text) (Some lines) = task_in text ≡ Ok lines
+IsTaskOf None (Some lines) = ⊥
+IsTaskOf (Some text) None = ⊥
+
+-- what is said of a transcript, whose runs are judged by this task if there is one
+abbrev pub IsExplainedBy : Bool → Option (List Tree) → List ℕ → Outcome → List ℕ → Type 0
+IsExplainedBy json None input outcome output = IsExplanationIn json input outcome output
+IsExplainedBy json (Some lines) input outcome output = IsKeptExplanation json lines input outcome output
+
+-- a transcript is explained as is requested
+abbrev pub IsWhyShown : Explaining → List ℕ → Result Outcome AllocError → List ℕ → Type 0
+IsWhyShown explaining input ending output = (task : Option (List Tree)) × IsTaskOf (judged_by explaining) task × IsWhole (IsExplainedBy explaining.json task input) ending output
 
 -- the values of which inputs are made, as text
 abbrev pub values_text : Searching → Option (List ℕ)
@@ -98,7 +121,7 @@ IsSearchShown searching input ending output = (search : Search) × IsSearchBy se
 
 -- as text, or as JSON if that is asked for
 abbrev pub IsShown : Request → List ℕ → Result Outcome AllocError → List ℕ → Type 0
-IsShown (Why json) input ending output = IsWhole (IsExplanationIn json input) ending output
+IsShown (Why explaining) input ending output = IsWhyShown explaining input ending output
 IsShown (Trace json) input ending output = IsTraceIn json input ending output
 IsShown (Draw style) input ending output = IsDrawn style input ending output
 IsShown Page input ending output = IsPageFor (input ∷ []) ending output
@@ -112,7 +135,7 @@ IsShown (Lint json) input ending output = IsWhole (IsLintIn json input) ending o
 
 -- the input's first fault and its line, by what the input is read as: rooms are refused one by one, so a file of rooms has no fault
 abbrev pub first_fault : Request → List ℕ → Option FaultAt
-first_fault (Why json) input = fault_in (input_says input)
+first_fault (Why explaining) input = fault_in (input_says input)
 first_fault (Trace json) input = fault_in (script_says input)
 first_fault (Draw style) input = fault_in (script_says input)
 first_fault Page input = fault_among (input ∷ [])
@@ -147,8 +170,14 @@ is_more_asked searching = is_some searching.outcome && (searching.task || (is_so
 abbrev pub searching_fault : Searching → Option OptionFault
 searching_fault searching = if is_more_asked searching then Some Alone else search_fault (values_text searching) (keeps_text searching)
 
--- the fault of the goal that a script is graded by, or of the options of `outcomes`
+-- the fault of a task of one's own, if it is given
+abbrev pub keeps_fault : Option (List ℕ) → Option OptionFault
+keeps_fault None = None
+keeps_fault (Some keeps) = keeps_fault_in (task_in keeps)
+
+-- the fault of a task of one's own, of the goal that a script is graded by, or of the options of `outcomes`
 abbrev pub option_fault : Request → Option OptionFault
+option_fault (Why explaining) = keeps_fault (judged_by explaining)
 option_fault (Grade grading) = goal_fault_in (goal_in (goal_text grading))
 option_fault (Outcomes searching) = searching_fault searching
 option_fault _ = None

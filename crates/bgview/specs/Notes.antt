@@ -86,7 +86,7 @@ AreLintNotes true input result old new = new ≡ old
 
 -- what is said on standard error of an input that is answered whole: of its faults; and as `lint` says these as its answer, what it warns of
 abbrev pub AreNotesOn : {A : Type 0} → Request → List ℕ → Result A ViewFault → List ℕ → List ℕ → Type 0
-AreNotesOn (Why json) input result old new = AreWhyNotes json input result old new
+AreNotesOn (Why explaining) input result old new = AreWhyNotes explaining.json input result old new
 AreNotesOn (Trace json) input result old new = AreScriptNotes input result new
 AreNotesOn (Draw style) input result old new = AreScriptNotes input result new
 AreNotesOn Page input result old new = AreFileNotes input result new

@@ -7,6 +7,7 @@ use Rattle.view_outcomes.specs.Forms.{form_if}
 use Rattle.bgview_command_line.specs.CommandLine.{IsNumber, IsNumberIfAny, is_given, json_among, value_among}
 use Rattle.bgview_command_line.specs.declared.words.Mode.{Mode}
 use Rattle.bgview_command_line.specs.declared.words.Mode.TheVariants as modes
+use Rattle.bgview.specs.declared.request.Explaining.{Explaining}
 use Rattle.bgview.specs.declared.request.Grading.{Grading}
 use Rattle.bgview.specs.declared.request.OfInput.TheVariants.{Live, Whole}
 use Rattle.bgview.specs.declared.request.Request.{Request}
@@ -27,6 +28,11 @@ pub record IsPlanAmong (found : Option (List ℕ × List Row)) (plan : Plan) : T
   pub json : plan.json ≡ is_given (value_among (codes "json") found)
   pub top : IsNumberIfAny (value_among (codes "top") found) plan.top
   pub outcome : IsNumberIfAny (value_among (codes "outcome") found) plan.outcome
+
+-- how a transcript is explained, as the values of `why` say
+pub record IsExplainingAmong (found : Option (List ℕ × List Row)) (explaining : Explaining) : Type 0 where
+  pub json : explaining.json ≡ json_among found
+  pub keeps : option_map (λ text. text.now) explaining.keeps ≡ value_among (codes "keeps") found
 
 -- the search that the values of `outcomes` say
 pub record IsSearchAmong (found : Option (List ℕ × List Row)) (search : Searching) : Type 0 where
@@ -52,7 +58,7 @@ pub record IsStyleAmong (found : Option (List ℕ × List Row)) (style : Style) 
 
 -- what is requested of an input that is read whole: what the mode is, with what the values of its options say
 abbrev pub IsRequestBy : Mode → Option (List ℕ × List Row) → Request → Type 0
-IsRequestBy modes.Why found (Why json) = json ≡ json_among found
+IsRequestBy modes.Why found (Why explaining) = IsExplainingAmong found explaining
 IsRequestBy modes.Trace found (Trace json) = json ≡ json_among found
 IsRequestBy modes.Draw found (Draw style) = IsStyleAmong found style
 IsRequestBy modes.Page found Page = ⊤

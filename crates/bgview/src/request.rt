@@ -1,7 +1,7 @@
 //! What the words of the command line request.
 ghost use Rattle.clap.specs.Words.{subcommand_rows_of};
 ghost use Rattle.bgview_command_line.specs.CommandLine.{mode_among};
-ghost use Rattle.bgview.specs.Requests.{IsGradingAmong, IsPlanAmong, IsRequestedBy, IsSearchAmong, IsStyleAmong};
+ghost use Rattle.bgview.specs.Requests.{IsExplainingAmong, IsGradingAmong, IsPlanAmong, IsRequestedBy, IsSearchAmong, IsStyleAmong};
 
 use bgview_command_line::{
     Mode, is_given, line_in, number_among, number_if_any, text_among, text_if_any,
@@ -10,6 +10,15 @@ use clap::ArgMatches;
 use room_sample::Plan;
 use run_picture::Style;
 use view_outcomes::Form;
+
+/// How a transcript is explained.
+#[derive(Clone, Copy)]
+pub struct Explaining<'a> {
+    /// Whether it is as JSON.
+    pub json: bool,
+    /// A task of one's own, as text, if runs are judged by it.
+    pub keeps: Option<&'a str>,
+}
 
 /// What a script is graded by.
 #[derive(Clone, Copy)]
@@ -45,8 +54,8 @@ pub struct Searching<'a> {
 /// What is requested of an input that is read whole before it is answered.
 #[derive(Clone, Copy)]
 pub enum Request<'a> {
-    /// Which rooms of a transcript are runs, and why the others are none; as JSON or as text.
-    Why { json: bool },
+    /// Which rooms of a transcript are runs, and why the others are none.
+    Why(Explaining<'a>),
     /// What each step of a script did; as JSON or as text.
     Trace { json: bool },
     /// A picture of a script's rooms.
@@ -91,7 +100,7 @@ pub fn requested_in<'a>(matches: &ArgMatches<'a>) -> Requested<'a>
     let request = match line_in(matches).command {
         Mode::Fault => return Requested::Faults,
         Mode::Live => return Requested::Input(OfInput::Live),
-        Mode::Why => Request::Why { json },
+        Mode::Why => Request::Why(explaining_in(matches)),
         Mode::Trace => Request::Trace { json },
         Mode::Draw => Request::Draw(style_in(matches)),
         Mode::Page => Request::Page,
@@ -102,6 +111,16 @@ pub fn requested_in<'a>(matches: &ArgMatches<'a>) -> Requested<'a>
         Mode::Lint => Request::Lint { json },
     };
     Requested::Input(OfInput::Whole(request))
+}
+
+/// How a transcript is explained, as the words say.
+fn explaining_in<'a>(matches: &ArgMatches<'a>) -> Explaining<'a>
+    ensures { IsExplainingAmong (subcommand_rows_of matches.now) result }
+{
+    Explaining {
+        json: is_given(matches, "json"),
+        keeps: text_if_any(matches, "keeps"),
+    }
 }
 
 /// How rooms are drawn by what the words ask for.

@@ -3,7 +3,7 @@ ghost use Rattle.std.specs.Prelude.{◌≡◌, ◌≤◌, Ok, None, IfErr, IfOk,
 ghost use Rattle.io_text.specs.Reading.{most_bytes};
 ghost use Rattle.file_faults.specs.Lint.{IsLintIn};
 ghost use Rattle.room_files.specs.Blocks.{IsFaultOr};
-ghost use Rattle.room_files.specs.Inputs.{input_says};
+ghost use Rattle.room_files.specs.Inputs.{MayLackMemory, input_says};
 ghost use Rattle.view_grade.specs.Goals.{goal_in};
 ghost use Rattle.script_play.specs.Script.{script_says};
 ghost use Rattle.view_outcomes.specs.Asked.{AreInputsAsked, IsTaskAsked};
@@ -14,11 +14,11 @@ ghost use Rattle.view_outcomes.specs.declared.search.Search.{Search as SearchVal
 ghost use Rattle.view_page.specs.Pages.{fault_in};
 ghost use Rattle.view_trace.specs.Trace.{IsTraceIn};
 ghost use Rattle.view_why.specs.Why.{IsExplanationIn};
-ghost use Rattle.bgview.specs.Answers.{Ends, EndsRequest, IsGradeFor, IsSearchFor, IsSearchShown, IsShown, IsWhole, asked_alone, goal_fault_in, goal_text, is_more_asked, keeps_fault_in, keeps_text, search_fault, searching_fault, values_fault_in, values_text};
+ghost use Rattle.bgview.specs.Answers.{Ends, EndsRequest, IsExplainedBy, IsGradeFor, IsSearchFor, IsSearchShown, IsShown, IsTaskOf, IsWhole, IsWhyShown, asked_alone, goal_fault_in, goal_text, is_more_asked, judged_by, keeps_fault, keeps_fault_in, keeps_text, search_fault, searching_fault, values_fault_in, values_text};
 ghost use Rattle.bgview.specs.Notes.{AreGoalNotes, AreGradeNotes, AreLintNotes, AreNotes, AreNotesOn, AreRoomNotes, AreSaidOfFile, AreWhyNotes};
 
 use crate::fault::{OptionFault, ViewFault};
-use crate::request::{Grading, Request, Searching};
+use crate::request::{Explaining, Grading, Request, Searching};
 use crate::system::{Aside, System};
 use decision_tasks::DecisionTask;
 use file_faults::{lint, lint_json, room_faults, script_faults, transcript_faults, warnings_of};
@@ -36,7 +36,7 @@ use view_page::{faults_of, page};
 use view_sample::sample_blocks;
 use view_trace::{trace, trace_json};
 use view_transcript::transcribe;
-use view_why::{explain, explain_json};
+use view_why::{explain, explain_json, explain_kept};
 
 /// What is shown of an input as is requested. What is said of its faults, or of a goal that is not valid, becomes the notes of `aside`.
 pub fn show<H: Threads + Sync, I, P: Progress>(
@@ -52,7 +52,7 @@ pub fn show<H: Threads + Sync, I, P: Progress>(
 {
     let alloc = system.alloc;
     match request {
-        Request::Why { json } => explained(alloc, *json, input, &mut aside.notes),
+        Request::Why(explaining) => why_or_fail(alloc, explaining, input, &mut aside.notes),
         Request::Trace { json } => {
             aside.notes = script_faults(alloc, input)?;
             Ok(traced(alloc, *json, input)?)
@@ -128,33 +128,72 @@ fn traced(alloc: Global, json: bool, script: &[u8]) -> Result<PlayText, InputFau
     trace(alloc, script)
 }
 
-/// Explains a transcript, as text or as JSON. What is said of its faults becomes `notes`, unless the answer has it.
-fn explained(
+/// Explains a transcript, unless the task of one's own by which its runs are judged is not valid. What is said of its faults becomes `notes`, unless the answer has it.
+fn why_or_fail(
     alloc: Global,
-    json: bool,
+    explaining: &Explaining<'_>,
     input: &[u8],
     notes: &mut Text,
 ) -> Result<PlayText, ViewFault>
     requires { length input.now ≤ most_bytes }
-    ensures shown { IfOk result (λ shown. IsWhole (IsExplanationIn json input.now) shown.ending shown.output) }
+    ensures shown { IfOk result (λ shown. IsWhyShown explaining.now input.now shown.ending shown.output) }
+    ensures err { IfErr result (Ends (fault_in (input_says input.now)) (keeps_fault (judged_by explaining.now))) }
+    ensures notes { AreWhyNotes explaining.now.json input.now result notes.old notes.new }
+{
+    let task = task_or_fail(alloc, explaining)?;
+    explained(alloc, explaining.json, &task, input, notes)
+}
+
+/// The task of one's own by which runs are judged, if there is one.
+fn task_or_fail(
+    alloc: Global,
+    explaining: &Explaining<'_>,
+) -> Result<Option<DecisionTask>, ViewFault>
+    ensures task { IfOk result (λ task. IsTaskOf (judged_by explaining.now) task) }
+    ensures err { IfErr result (Ends None (keeps_fault (judged_by explaining.now))) }
+{
+    let Some(text) = explaining.keeps else {
+        return Ok(None);
+    };
+    match DecisionTask::read(alloc, text.as_bytes())? {
+        Ok(task) => Ok(Some(task)),
+        Err(fault) => Err(ViewFault::BadOption(OptionFault::Keeps(fault))),
+    }
+}
+
+/// Explains a transcript, as text or as JSON. What is said of its faults becomes `notes`, unless the answer has it.
+fn explained(
+    alloc: Global,
+    json: bool,
+    task: &Option<DecisionTask>,
+    input: &[u8],
+    notes: &mut Text,
+) -> Result<PlayText, ViewFault>
+    requires { length input.now ≤ most_bytes }
+    ensures shown { IfOk result (λ shown. IsWhole (IsExplainedBy json task.now input.now) shown.ending shown.output) }
     ensures err { IfErr result (Ends (fault_in (input_says input.now)) None) }
     ensures notes { AreWhyNotes json input.now result notes.old notes.new }
 {
     if !json {
-        return explain_or_note(alloc, input, notes);
+        return explain_or_note(alloc, task, input, notes);
     }
     *notes = transcript_faults(alloc, input)?;
-    Ok(whole(explain_json(alloc, input)?))
+    Ok(whole(explained_by(alloc, true, task, input)?))
 }
 
 /// Explains a transcript. What is said of all its faults, if it has a malformed line, becomes `notes`.
-fn explain_or_note(alloc: Global, input: &[u8], notes: &mut Text) -> Result<PlayText, ViewFault>
+fn explain_or_note(
+    alloc: Global,
+    task: &Option<DecisionTask>,
+    input: &[u8],
+    notes: &mut Text,
+) -> Result<PlayText, ViewFault>
     requires { length input.now ≤ most_bytes }
-    ensures shown { IfOk result (λ shown. IsWhole (IsExplanationIn false input.now) shown.ending shown.output) }
+    ensures shown { IfOk result (λ shown. IsWhole (IsExplainedBy false task.now input.now) shown.ending shown.output) }
     ensures err { IfErr result (Ends (fault_in (input_says input.now)) None) }
     ensures notes { AreNotes input.now result notes.old notes.new }
 {
-    match explain(alloc, input) {
+    match explained_by(alloc, false, task, input) {
         Ok(answer) => Ok(whole(answer)),
         Err(InputFault::Memory) => Err(ViewFault::Device(DeviceFault::Memory)),
         Err(InputFault::BadInput { line, fault }) => {
@@ -162,6 +201,35 @@ fn explain_or_note(alloc: Global, input: &[u8], notes: &mut Text) -> Result<Play
             Err(ViewFault::BadInput { line, fault })
         }
     }
+}
+
+/// What is said of a transcript, whose runs are judged by this task if there is one.
+fn explained_by(
+    alloc: Global,
+    json: bool,
+    task: &Option<DecisionTask>,
+    input: &[u8],
+) -> Result<Answer, InputFault>
+    requires { length input.now ≤ most_bytes }
+    ensures output { IfOk result (λ answer. IsExplainedBy json task.now input.now answer.outcome answer.output) }
+    ensures err { IfErr result (IsFaultOr (MayLackMemory input.now) (input_says input.now)) }
+{
+    match task {
+        Some(task) => explain_kept(alloc, input, json, task),
+        None => explained_alone(alloc, json, input),
+    }
+}
+
+/// What is said of a transcript whose runs are judged by no task but their rooms' own.
+fn explained_alone(alloc: Global, json: bool, input: &[u8]) -> Result<Answer, InputFault>
+    requires { length input.now ≤ most_bytes }
+    ensures output { IfOk result (λ answer. IsExplanationIn json input.now answer.outcome answer.output) }
+    ensures err { IfErr result (IsFaultOr (MayLackMemory input.now) (input_says input.now)) }
+{
+    if json {
+        return explain_json(alloc, input);
+    }
+    explain(alloc, input)
 }
 
 /// Searches rooms, unless the options are not valid. What is said of refused blocks becomes the notes of `aside`.

@@ -26,6 +26,14 @@ json_rule = record (new_rule (codes "json")) { long = Some (codes "json"); actio
 abbrev pub telling_app : List ℕ → App
 telling_app word = with_rule (file_app word) json_rule
 
+-- an option that takes a text
+abbrev pub keeps_rule : Rule
+keeps_rule = record (new_rule (codes "keeps")) { long = Some (codes "keeps"); value_names = 1 }
+
+-- the subcommand `why`, which takes besides a text
+abbrev pub why_app : App
+why_app = with_rule (telling_app (codes "why")) keeps_rule
+
 -- the subcommand `page`, which takes one file or two
 abbrev pub page_app : App
 page_app = with_rule (file_app (codes "page")) (new_rule (codes "OTHER"))
@@ -108,9 +116,6 @@ listing_app = with_rule (with_rule picking_app json_rule) brief_rule
 abbrev pub inputs_rule : Rule
 inputs_rule = record (new_rule (codes "inputs")) { long = Some (codes "inputs"); value_names = 1 }
 
-abbrev pub keeps_rule : Rule
-keeps_rule = record (new_rule (codes "keeps")) { long = Some (codes "keeps"); value_names = 1 }
-
 -- the subcommand `outcomes`, which takes besides a flag and two texts
 abbrev pub outcomes_app : App
 outcomes_app = with_rule (with_rule (with_rule listing_app task_rule) inputs_rule) keeps_rule
@@ -142,7 +147,7 @@ plain_app = record { top = plain_shape; subs = [] }
 
 abbrev pub bgview_app : App
 bgview_app =
-    let showing = with_subcommand (with_subcommand (with_subcommand (with_subcommand plain_app (telling_app (codes "why")).top) (telling_app (codes "trace")).top) draw_app.top) page_app.top in
+    let showing = with_subcommand (with_subcommand (with_subcommand (with_subcommand plain_app why_app.top) (telling_app (codes "trace")).top) draw_app.top) page_app.top in
     let finding = with_subcommand (with_subcommand (with_subcommand (with_subcommand showing (file_app (codes "transcript")).top) fault_app.top) sample_app.top) outcomes_app.top in
     with_subcommand (with_subcommand (with_subcommand finding (telling_app (codes "lint")).top) grade_app.top) (file_app (codes "live")).top
 

@@ -4,7 +4,7 @@ ghost use Rattle.clap.specs.Kinds.{FailsBy};
 ghost use Rattle.clap.specs.declared.builder.command.Command.TheViews.{out-Command};
 ghost use Rattle.clap.specs.Words.{app_of, fault_of, subcommand_of, subcommand_rows_of, with_subcommand};
 ghost use Rattle.clap.specs.Walk.{rule_of};
-ghost use Rattle.bgview_command_line.specs.CommandLine.{bgview_app, brief_rule, choosing_app, commands_rule, crashes_rule, draw_app, drawing_app, fault_app, file_app, from_rule, goal_rule, grade_app, group_rule, inputs_rule, json_rule, keeps_rule, listing_app, outcome_rule, outcomes_app, page_app, picking_app, plain_app, sample_app, scale_rule, schedules_rule, searching_app, seed_rule, nodes_rule, stopped_rule, task_rule, telling_app, top_rule, turns_rule, workers_rule};
+ghost use Rattle.bgview_command_line.specs.CommandLine.{bgview_app, brief_rule, choosing_app, commands_rule, crashes_rule, draw_app, drawing_app, fault_app, file_app, from_rule, goal_rule, grade_app, group_rule, inputs_rule, json_rule, keeps_rule, listing_app, outcome_rule, outcomes_app, page_app, picking_app, plain_app, sample_app, scale_rule, schedules_rule, searching_app, seed_rule, nodes_rule, stopped_rule, task_rule, telling_app, top_rule, turns_rule, why_app, workers_rule};
 
 use clap::{Arg, ArgAction, ArgMatches, Command, Error, value_parser};
 use std::alloc::{AllocError, Global};
@@ -43,18 +43,22 @@ fn telling_command<'a>(
     command.arg(json_option(alloc))
 }
 
-/// The subcommand `why`.
+/// The subcommand `why`, which takes a file, a flag and a text.
 fn why_command<'a>(alloc: Global) -> Result<Command<'a>, AllocError>
-    ensures app { IfOk result (λ command. app_of command ≡ telling_app (codes "why")) }
+    ensures app { IfOk result (λ command. app_of command ≡ why_app) }
     ensures local { IfOk result (λ command. (out-Command command).has_globals ≡ false) }
 {
-    telling_command(
+    let why = telling_command(
         alloc,
         "why",
         "Says of each room in a transcript whether its events are a run, and if not, why",
-        "bgview why [--json] [FILE]",
+        "bgview why [--json] [--keeps TASK] [FILE]",
         "The transcript; without it, standard input is read",
-    )
+    )?;
+    why.arg(keeps_option(
+        alloc,
+        "Judges whether one of these lines holds for each process that has decided, after each decision of each run, as in 'mine == min; mine == max': conditions as of `bgview outcomes --keeps`",
+    ))
 }
 
 /// The subcommand `trace`.
@@ -302,7 +306,10 @@ fn outcomes_command<'a>(alloc: Global) -> Result<Command<'a>, AllocError>
     let outcomes = listing_command(alloc)?;
     let with_task = outcomes.arg(task_option(alloc))?;
     let with_inputs = with_task.arg(inputs_option(alloc))?;
-    with_inputs.arg(keeps_option(alloc))
+    with_inputs.arg(keeps_option(
+        alloc,
+        "Judges whether one of these lines holds for each process that has decided, at each moment of each run, as in 'mine == min; mine == max': conditions of the protocol language over the decisions, with `given` for how many processes have `mine` as their input",
+    ))
 }
 
 /// The subcommand `outcomes` with the options that say which runs are searched, which outcomes are shown, and how.
@@ -412,16 +419,14 @@ fn inputs_option<'a>(alloc: Global) -> Arg<'a>
 }
 
 /// The option `--keeps TASK`.
-fn keeps_option<'a>(alloc: Global) -> Arg<'a>
+fn keeps_option<'a>(alloc: Global, help: &'a str) -> Arg<'a>
     ensures rule { rule_of result ≡ keeps_rule }
     ensures local { result.global ≡ false }
 {
     Arg::new(alloc, "keeps")
         .long("keeps")
         .value_name("TASK")
-        .help(
-            "Judges whether one of these lines holds for each process that has decided, at each moment of each run, as in 'mine == min; mine == max': conditions of the protocol language over the decisions, with `given` for how many processes have `mine` as their input",
-        )
+        .help(help)
 }
 
 /// The subcommand `lint`.

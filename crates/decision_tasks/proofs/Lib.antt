@@ -1,5 +1,6 @@
 mod Agreeing
 mod Moments
+mod Noting
 mod Reading
 mod Renaming
 mod Worked

@@ -1,5 +1,5 @@
 -- Tasks of one's own, and what keeps them.
-use Rattle.std.specs.Prelude.{◌≡◌, ℕ, ◌==◌, Bool, true, false, List, length, Option, Some, Result, Ok, Err, slice_get, slice_index_or, ◌+◌, [], ◌∷◌}
+use Rattle.std.specs.Prelude.{◌≡◌, ℕ, ◌<◌, ◌==◌, Bool, true, false, List, length, take, Option, Some, Result, Ok, Err, slice_get, slice_index_or, ◌+◌, [], ◌∷◌}
 use Rattle.std.specs.List.{count_by, list_any}
 use Rattle.protocol_lang.specs.Meaning.{next_action}
 use Rattle.protocol_lang.specs.Reading.{reading}
@@ -16,6 +16,7 @@ use Rattle.decision_tasks.specs.Lines.{lines_in, place_in, protocol_text}
 use Rattle.decision_tasks.specs.Decisions.{decided_by}
 use Rattle.decision_tasks.specs.declared.judging.DecisionJudgement.{DecisionJudgement}
 use Rattle.decision_tasks.specs.declared.judging.DecisionJudgement.TheVariants.{Kept, Broken}
+use Rattle.decision_tasks.specs.declared.history.Moment.{Moment}
 use Rattle.decision_tasks.specs.declared.judging.Break.{Break}
 use Rattle.decision_tasks.specs.declared.task.LineFault.{LineFault}
 
@@ -49,9 +50,22 @@ pub record IsRefused (lines : List Tree) (inputs : List ℕ) (decisions : List (
   pub decided : slice_get decisions p ≡ Some (Some v)
   pub refused : is_allowed lines inputs decisions p v ≡ false
 
+-- and no process of a smaller number has
+pub record IsFirstRefused (lines : List Tree) (inputs : List ℕ) (decisions : List (Option ℕ)) (p v : ℕ) : Type 0 where
+  pub refused : IsRefused lines inputs decisions p v
+  pub others : (q w : ℕ) → q < p → slice_get decisions q ≡ Some (Some w) → is_allowed lines inputs decisions q w ≡ true
+
 -- what was decided is allowed after each of the events
 abbrev pub KeepsDecisions : List Tree → RoomSpec → List Event → Type 0
 KeepsDecisions lines spec events = (t : ℕ) → AreAllowed lines spec.inputs (decided_by spec events t)
+
+-- After the event of this index what was decided, which is this, is no more allowed, as it was until then; this is the first process whose decision is not, and what it has decided.
+pub record IsFirstBroken (lines : List Tree) (spec : RoomSpec) (events : List Event) (moment : Moment) : Type 0 where
+  pub event : Event
+  pub there : slice_get events moment.at ≡ Some event
+  pub decided : moment.decisions.items ≡ decided_by spec events (moment.at + 1)
+  pub refused : IsFirstRefused lines spec.inputs moment.decisions.items moment.process moment.value
+  pub kept_before : KeepsDecisions lines spec (take moment.at events)
 
 -- ---- judgements
 

@@ -7,7 +7,7 @@ ghost use Rattle.protocol_lang.specs.FirstFaults.{place_of};
 ghost use Rattle.protocol_lang.specs.Reading.{reading};
 ghost use Rattle.protocol_lang.specs.declared.meaning.TheConstants.{MAX_PROCESSES};
 ghost use Rattle.decision_tasks.specs.Lines.{protocol_text};
-ghost use Rattle.decision_tasks.specs.Tasks.{AreAllowed, IsRefused, given, holds, is_allowed, is_one, task_from, task_in};
+ghost use Rattle.decision_tasks.specs.Tasks.{AreAllowed, IsFirstRefused, given, holds, is_allowed, is_one, task_from, task_in};
 
 use crate::line::{HEAD, lines_of, protocol_text};
 use protocol_lang::{Action, MAX_PROCESSES, ParseFault, Protocol, View, next, parse_bytes};
@@ -86,7 +86,7 @@ impl DecisionTask {
     pub fn first_refused(&self, spec: &Spec, decisions: &View) -> Option<(usize, u32)>
         requires { length decisions.now.items ≡ processes spec.now }
         ensures none { IfNone result (AreAllowed self.now spec.now.inputs decisions.now.items) }
-        ensures some { IfSome result (λ refused. IsRefused self.now spec.now.inputs decisions.now.items refused.0 refused.1) }
+        ensures some { IfSome result (λ refused. IsFirstRefused self.now spec.now.inputs decisions.now.items refused.0 refused.1) }
     {
         for p in 0..decisions.len() {
             let Some(v) = decisions[p] else {

@@ -6,7 +6,7 @@ ghost use Rattle.room_files.specs.Lines.{text_lines};
 ghost use Rattle.room_files.specs.declared.fault.BlockFault.TheVariants.{NameTaken};
 ghost use Rattle.fault_text.specs.Blocks.{block_fault, block_notes, choices_if, crash_note, end_note, end_notes, end_place, first_form, forms_at, head_fault, is_end_place, is_like_end, is_second, later_forms, later_line, line_ends, line_fault, line_of, other_kind, program_from, program_fault, program_of, program_place, token_fault_hints};
 ghost use Rattle.fault_text.specs.Choices.{choices_note, comparison_hint, last_rule_hint};
-ghost use Rattle.fault_text.specs.Lines.{indented};
+ghost use Rattle.fault_text.specs.Lines.{indented, line_at};
 ghost use Rattle.fault_text.specs.Phrases.{form_fault};
 
 use crate::choices::{write_choices, write_comparison_hint, write_last_rule_hint};
@@ -15,7 +15,7 @@ use crate::hints::{
 };
 use crate::lines::{line_at, split_text, write_indented};
 use crate::phrases::{COMMANDS, fits_one, write_form_fault};
-use crate::places::{last_line, write_heading, write_place};
+use crate::places::{Remark, last_line, write_heading, write_place};
 use io_text::Text;
 use protocol_lang::ParseFault;
 use room_files::{BlockFault, next_line, split_line};
@@ -42,6 +42,14 @@ const END_MISSING: &[u8] = b"a line `end` is missing before this line";
 /// The forms of a block's lines after the sixth. In version 1, and after the seventh line, there is no task.
 const LATER_LINES: [&[u8]; 3] = [b"task agree K", b"crash J after V", b"protocol"];
 
+/// A text that begins with a block.
+#[derive(Clone, Copy)]
+struct BlockText<'a> {
+    /// The number of its first line.
+    first: u64,
+    text: &'a [u8],
+}
+
 /// Writes what the fault of a block is about, with which this text begins. The block's first line has this number.
 pub fn write_block_fault(
     alloc: Global,
@@ -54,7 +62,7 @@ pub fn write_block_fault(
 {
     match fault {
         SpecFault::BadProtocol(fault) => write_program_fault(alloc, output, first, text, fault),
-        _ => write_head_fault(alloc, output, first, text, fault),
+        _ => write_head_fault(alloc, output, &BlockText { first, text }, fault),
     }
 }
 
@@ -62,15 +70,14 @@ pub fn write_block_fault(
 fn write_head_fault(
     alloc: Global,
     output: &mut Text,
-    first: u64,
-    text: &[u8],
+    block: &BlockText<'_>,
     fault: SpecFault,
 ) -> Result<(), AllocError>
-    ensures { OnOk result (output.new ≡ output.old ++ head_fault first text.now fault) }
+    ensures { OnOk result (output.new ≡ output.old ++ head_fault block.now.first block.now.text.now fault) }
 {
     let line = line_of(fault);
-    write_line_fault(alloc, output, first, text, line, BlockFault::Spec(fault))?;
-    write_block_notes(alloc, output, first, text, fault)
+    write_line_fault(alloc, output, block, line, BlockFault::Spec(fault))?;
+    write_block_notes(alloc, output, block.first, block.text, fault)
 }
 
 /// Writes what may help with a fault of a block besides what is said of its line: how many bits step numbers take, which simulators there
@@ -128,11 +135,12 @@ fn write_end_note(
 ) -> Result<(), AllocError>
     ensures { OnOk result (output.new ≡ output.old ++ end_note number line.now) }
 {
-    if is_like_end(line) {
-        write_place(alloc, output, number, NOT_END, &[], line)
+    let sentence = if is_like_end(line) {
+        NOT_END
     } else {
-        write_place(alloc, output, number, END_MISSING, &[], line)
-    }
+        END_MISSING
+    };
+    write_place(alloc, output, &Remark { number, sentence }, &[], line)
 }
 
 /// The first line that may be meant as a block's last, or that no block has, with its number. The text's first line has the number `first`.
@@ -194,43 +202,41 @@ pub fn write_name_taken(
 ) -> Result<(), AllocError>
     ensures { OnOk result (output.new ≡ output.old ++ line_fault first text.now 2 NameTaken) }
 {
-    write_line_fault(alloc, output, first, text, 2, BlockFault::NameTaken)
+    let block = BlockText { first, text };
+    write_line_fault(alloc, output, &block, 2, BlockFault::NameTaken)
 }
 
-/// Writes the sentence of a fault about a line of a block, with which this text begins.
-pub(crate) fn write_line_fault(
+/// Writes the sentence of a fault about a line of a block.
+fn write_line_fault(
     alloc: Global,
     output: &mut Text,
-    first: u64,
-    text: &[u8],
+    block: &BlockText<'_>,
     line: usize,
     fault: BlockFault,
 ) -> Result<(), AllocError>
-    ensures { OnOk result (output.new ≡ output.old ++ line_fault first text.now line fault) }
+    ensures { OnOk result (output.new ≡ output.old ++ line_fault block.now.first block.now.text.now line fault) }
 {
-    let number = later_line(first, line.saturating_sub(1) as u64);
-    let words = fault.sentence().as_bytes();
-    let bytes = line_at(text, line as u64);
-    write_line_forms(alloc, output, number, words, bytes, line, text)?;
-    write_other_kind(output, fault, bytes)
+    let number = later_line(block.first, line.saturating_sub(1) as u64);
+    let remark = Remark::new(number, fault.sentence());
+    write_line_forms(alloc, output, &remark, block.text, line)?;
+    write_other_kind(output, fault, line_at(block.text, line as u64))
 }
 
-/// Writes the sentence about a line of a block, which has these bytes, and the form that it should have. With this text the block begins.
+/// Writes a remark about a line of a block, and the form that it should have. With this text the block begins.
 fn write_line_forms(
     alloc: Global,
     output: &mut Text,
-    number: u64,
-    words: &[u8],
-    bytes: &[u8],
-    line: usize,
+    remark: &Remark<'_>,
     text: &[u8],
+    line: usize,
 ) -> Result<(), AllocError>
-    ensures { OnOk result (output.new ≡ output.old ++ form_fault number words.now bytes.now (forms_at text.now line)) }
+    ensures { OnOk result (output.new ≡ output.old ++ form_fault remark.now.number remark.now.sentence.now (line_at line text.now) (forms_at text.now line)) }
 {
+    let bytes = line_at(text, line as u64);
     if line <= 6 {
-        write_form_fault(alloc, output, number, words, bytes, &[first_form(line)])
+        write_form_fault(alloc, output, remark, bytes, &[first_form(line)])
     } else {
-        write_form_fault(alloc, output, number, words, bytes, later_forms(text, line))
+        write_form_fault(alloc, output, remark, bytes, later_forms(text, line))
     }
 }
 
@@ -319,23 +325,33 @@ pub fn program_of(text: &[u8]) -> (u64, &[u8])
     program_from(HEAD_LINES, 0, text)
 }
 
-/// Writes the sentence about a place of a block's protocol, which has these bytes before it and after it. The block's first line has the number
-/// `first`, and this many of its lines come before the protocol's text.
+/// A place of a block's protocol.
+#[derive(Clone, Copy)]
+struct ProgramPlace<'a> {
+    /// The number of the block's first line.
+    first: u64,
+    /// How many of its lines come before the protocol's text.
+    lines: u64,
+    /// What the protocol's text has before the place,
+    before: &'a [u8],
+    /// and from it on.
+    behind: &'a [u8],
+}
+
+/// Writes this sentence about a place of a block's protocol.
 fn write_program_place(
     alloc: Global,
     output: &mut Text,
-    first: u64,
-    lines: u64,
+    place: &ProgramPlace<'_>,
     sentence: &[u8],
-    before: &[u8],
-    behind: &[u8],
 ) -> Result<(), AllocError>
-    requires { lines ≤ HEAD_LINES }
-    ensures { OnOk result (output.new ≡ output.old ++ program_place first lines sentence.now before.now behind.now) }
+    requires { place.now.lines ≤ HEAD_LINES }
+    ensures { OnOk result (output.new ≡ output.old ++ program_place place.now.first place.now.lines sentence.now place.now.before.now place.now.behind.now) }
 {
-    let number = later_line(first, lines + line_ends(before));
-    let (back, _) = split_line(behind);
-    write_place(alloc, output, number, sentence, last_line(before), back)
+    let number = later_line(place.first, place.lines + line_ends(place.before));
+    let (back, _) = split_line(place.behind);
+    let remark = Remark { number, sentence };
+    write_place(alloc, output, &remark, last_line(place.before), back)
 }
 
 /// Writes what is said of the fault of a block's protocol. With this text the block begins.
@@ -354,11 +370,22 @@ fn write_program_fault(
         return write_heading(output, later_line(first, lines), words);
     };
     let (before, behind) = split_text(program, place);
-    write_program_place(alloc, output, first, lines, words, before, behind)?;
+    let at = ProgramPlace {
+        first,
+        lines,
+        before,
+        behind,
+    };
+    write_program_place(alloc, output, &at, words)?;
     let (_, around) = split_text(program, place.saturating_sub(1));
     let (back, _) = split_line(behind);
     write_choices_if(alloc, output, before, fault)?;
-    write_token_fault_hints(alloc, output, before, around, back, fault)
+    let near = NearFault {
+        before,
+        around,
+        back,
+    };
+    write_token_fault_hints(alloc, output, &near, fault)
 }
 
 /// How many line ends a text has.
@@ -386,28 +413,36 @@ fn write_choices_if(
     }
 }
 
-/// Writes what may help with a protocol's text that has these bytes before the place of its fault, these from one before it on, and these from
-/// there on.
+/// What a protocol's text has near the place of its fault.
+#[derive(Clone, Copy)]
+struct NearFault<'a> {
+    /// All before the place,
+    before: &'a [u8],
+    /// from the byte before it on,
+    around: &'a [u8],
+    /// and from there on up to the end of its line.
+    back: &'a [u8],
+}
+
+/// Writes what may help with a protocol's text that has this near the place of its fault.
 fn write_token_fault_hints(
     alloc: Global,
     output: &mut Text,
-    before: &[u8],
-    around: &[u8],
-    back: &[u8],
+    near: &NearFault<'_>,
     fault: ParseFault,
 ) -> Result<(), AllocError>
-    ensures { OnOk result (output.new ≡ output.old ++ token_fault_hints before.now around.now back.now fault) }
+    ensures { OnOk result (output.new ≡ output.old ++ token_fault_hints near.now.before.now near.now.around.now near.now.back.now fault) }
 {
     match fault {
         ParseFault::BadToken(_) => {
-            write_token_hints(output, around, back)?;
-            write_last_rule_hint(alloc, output, before)?;
-            write_unknown_hints(output, back)
+            write_token_hints(output, near.around, near.back)?;
+            write_last_rule_hint(alloc, output, near.before)?;
+            write_unknown_hints(output, near.back)
         }
         ParseFault::Unexpected(_) => {
-            write_token_hints(output, around, back)?;
-            write_last_rule_hint(alloc, output, before)?;
-            write_comparison_hint(alloc, output, before)
+            write_token_hints(output, near.around, near.back)?;
+            write_last_rule_hint(alloc, output, near.before)?;
+            write_comparison_hint(alloc, output, near.before)
         }
         ParseFault::ViewInFirst(_) => write_indented(output, FIRST_WORDS),
         _ => Ok(()),

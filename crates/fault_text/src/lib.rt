@@ -19,7 +19,7 @@ pub use blocks::{
 pub use hints::{NO_COMMAND, NO_EVENT, write_advice};
 pub use lines::{behind_lines, line_at, write_indented};
 pub use phrases::{COMMANDS, EVENTS, fits_one, write_form_fault};
-pub use places::{last_line, write_heading, write_place};
+pub use places::{Remark, last_line, write_heading, write_place};
 pub use refusals::{ENOUGH, MOST_EXPLAINED, Refusals, RefusedBlock, go_behind, write_noted};
 pub use spots::Spot;
 pub use strangers::{Strangers, has_room_line, write_near_room};

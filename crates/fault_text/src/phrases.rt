@@ -3,12 +3,13 @@ ghost use Rattle.std.specs.Prelude.{◌≡◌, ◌++◌, ◌-◌, ◌≤◌, ◌
 ghost use Rattle.std.specs.List.{ends_with};
 ghost use Rattle.fault_text.specs.Lines.{indented, indented_all, word_len};
 ghost use Rattle.fault_text.specs.Forms.{misfit_from, range_of};
-ghost use Rattle.fault_text.specs.Phrases.{expected_if, expected_notes, expects, fault_at, fits, fits_one, form_fault, form_notes, furthest, is_after_name, is_literal, is_other_word, literal_len, misfit, name_if, place_in, range_words, shown_form, shown_letter, value_place, wanted, wanted_if};
+ghost use Rattle.fault_text.specs.Places.{place_notes};
+ghost use Rattle.fault_text.specs.Phrases.{expected_if, expected_notes, expects, fits, fits_one, form_fault, form_notes, furthest, is_after_name, is_literal, is_other_word, literal_len, misfit, name_if, place_in, range_words, shown_form, shown_letter, value_place, wanted, wanted_if};
 
 use crate::forms::{find_misfit, range_of};
 use crate::hints::{first_word, is_near, write_line_hints};
 use crate::lines::split_text;
-use crate::places::write_place;
+use crate::places::{Remark, write_place};
 use io_text::Text;
 use std::alloc::{AllocError, Global};
 
@@ -31,32 +32,29 @@ pub const EVENTS: [&[u8]; 3] = [b"N P write V", b"N P snap EF", b"N P decide V"]
 pub fn write_form_fault(
     alloc: Global,
     output: &mut Text,
-    number: u64,
-    sentence: &[u8],
+    remark: &Remark<'_>,
     line: &[u8],
     forms: &[&[u8]],
 ) -> Result<(), AllocError>
-    ensures { OnOk result (output.new ≡ output.old ++ form_fault number sentence.now line.now (map (λ form. form.now) forms.now)) }
+    ensures { OnOk result (output.new ≡ output.old ++ form_fault remark.now.number remark.now.sentence.now line.now (map (λ form. form.now) forms.now)) }
 {
     let at = place_in(line, forms);
-    write_fault_at(alloc, output, number, sentence, at, line, forms)
+    write_remark_at(alloc, output, remark, line, at)?;
+    write_form_notes(output, at, line, forms)
 }
 
-/// Writes the same about this place of a line.
-fn write_fault_at(
+/// Writes the remark about this place of a line.
+fn write_remark_at(
     alloc: Global,
     output: &mut Text,
-    number: u64,
-    sentence: &[u8],
-    at: usize,
+    remark: &Remark<'_>,
     line: &[u8],
-    forms: &[&[u8]],
+    at: usize,
 ) -> Result<(), AllocError>
-    ensures { OnOk result (output.new ≡ output.old ++ fault_at number sentence.now at line.now (map (λ form. form.now) forms.now)) }
+    ensures { OnOk result (output.new ≡ output.old ++ indented_all (place_notes remark.now.number remark.now.sentence.now (take at line.now) (drop at line.now))) }
 {
     let (front, back) = split_text(line, at);
-    write_place(alloc, output, number, sentence, front, back)?;
-    write_form_notes(output, at, line, forms)
+    write_place(alloc, output, remark, front, back)
 }
 
 /// Writes what is expected at this place of a line that has one of these forms, or should, and what may help.

@@ -15,19 +15,39 @@ const WIDE: usize = 60;
 /// How many are shown if there are more, after two dots or before them.
 const KEPT: usize = 58;
 
-/// Writes the sentence about a place of an input, after the number of its line; the line, which has these bytes before the place and
+/// A sentence about a line of an input.
+#[derive(Clone, Copy)]
+pub struct Remark<'a> {
+    /// The number of the line.
+    pub number: u64,
+    pub sentence: &'a [u8],
+}
+
+impl<'a> Remark<'a> {
+    /// This sentence about the line of this number.
+    pub fn new(number: u64, sentence: &'a str) -> Remark<'a>
+        ensures number { result.number ≡ number }
+        ensures sentence { result.sentence.now ≡ sentence.now }
+    {
+        Remark {
+            number,
+            sentence: sentence.as_bytes(),
+        }
+    }
+}
+
+/// Writes the remark about a place of an input, after the number of its line; the line, which has these bytes before the place and
 /// from it on; and a caret below the place.
 pub fn write_place(
     alloc: Global,
     output: &mut Text,
-    number: u64,
-    sentence: &[u8],
+    remark: &Remark<'_>,
     front: &[u8],
     back: &[u8],
 ) -> Result<(), AllocError>
-    ensures { OnOk result (output.new ≡ output.old ++ indented_all (place_notes number sentence.now front.now back.now)) }
+    ensures { OnOk result (output.new ≡ output.old ++ indented_all (place_notes remark.now.number remark.now.sentence.now front.now back.now)) }
 {
-    write_heading(output, number, sentence)?;
+    write_heading(output, remark.number, remark.sentence)?;
     let mut shown = Text::new(alloc);
     write_front(&mut shown, front, back.is_empty())?;
     output.put_two(b"    ", shown.as_bytes())?;

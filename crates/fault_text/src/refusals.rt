@@ -4,7 +4,7 @@ ghost use Rattle.std.specs.List.{flat_map};
 ghost use Rattle.fault_text.specs.Lines.{behind_lines};
 ghost use Rattle.fault_text.specs.Refusals.{after_room, all_named, all_noted, all_said, enough_if, name_in, named_if, named_line, named_refusals, noted_refusal, noted_refusals, refusal_line, said_refusal, said_refusals, why_said};
 
-use crate::blocks::{write_block_fault, write_line_fault};
+use crate::blocks::{write_block_fault, write_name_taken};
 use crate::lines::{behind_lines, line_at, split_text};
 use history_checker::AddFault;
 use io_text::Text;
@@ -332,6 +332,6 @@ fn write_why(
 {
     match fault {
         BlockFault::Spec(fault) => write_block_fault(alloc, output, first, text, fault),
-        BlockFault::NameTaken => write_line_fault(alloc, output, first, text, 2, fault),
+        BlockFault::NameTaken => write_name_taken(alloc, output, first, text),
     }
 }

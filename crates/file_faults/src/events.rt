@@ -13,7 +13,7 @@ use crate::json::{write_fault, write_more_in};
 use crate::scripts::{block_extent, block_in_front};
 use crate::walk::write_part;
 use fault_text::{
-    EVENTS, MOST_EXPLAINED, NO_EVENT, Refusals, Spot, Strangers, fits_one, later_line,
+    EVENTS, MOST_EXPLAINED, NO_EVENT, Refusals, Remark, Spot, Strangers, fits_one, later_line,
     write_advice, write_form_fault, write_indented, write_near_room, write_place,
 };
 use history_checker::NoRoom;
@@ -270,8 +270,8 @@ fn write_bad_line(
     if fits_one(line.text, &REPORT_LINES) {
         return write_misplaced(alloc, output, line, fault, EVENTS_ALONE);
     }
-    let words = fault.sentence().as_bytes();
-    write_form_fault(alloc, output, line.number, words, line.text, &EVENTS)?;
+    let remark = Remark::new(line.number, fault.sentence());
+    write_form_fault(alloc, output, &remark, line.text, &EVENTS)?;
     write_advice(output, &NO_EVENT, line.text)
 }
 
@@ -285,8 +285,8 @@ fn write_misplaced(
 ) -> Result<(), AllocError>
     ensures { OnOk result (output.new ≡ output.old ++ misplaced_said line.now.number line.now.text.now fault elsewhere.now) }
 {
-    let words = fault.sentence().as_bytes();
-    write_place(alloc, output, line.number, words, &[], line.text)?;
+    let remark = Remark::new(line.number, fault.sentence());
+    write_place(alloc, output, &remark, &[], line.text)?;
     write_indented(output, elsewhere)
 }
 
@@ -353,7 +353,7 @@ fn write_stranger(
     if strangers.meet(alloc, name)? {
         return Ok(());
     }
-    let words = NoRoom.sentence().as_bytes();
-    write_place(alloc, output, line.number, words, &[], line.text)?;
+    let remark = Remark::new(line.number, NoRoom.sentence());
+    write_place(alloc, output, &remark, &[], line.text)?;
     line.opened.write_meant(output, name)
 }

@@ -16,9 +16,9 @@ use crate::json::{write_fault, write_more_in};
 use crate::rooms::OpenRooms;
 use crate::walk::write_part;
 use fault_text::{
-    COMMANDS, MOST_EXPLAINED, NO_COMMAND, Spot, Strangers, has_room_line, later_line, write_advice,
-    write_block_fault, write_form_fault, write_indented, write_name_taken, write_near_room,
-    write_place,
+    COMMANDS, MOST_EXPLAINED, NO_COMMAND, Remark, Spot, Strangers, has_room_line, later_line,
+    write_advice, write_block_fault, write_form_fault, write_indented, write_name_taken,
+    write_near_room, write_place,
 };
 use io_text::Text;
 use room_files::{BlockFault, TextFault, count_lines, read_room, split_line, write_refused};
@@ -316,7 +316,7 @@ fn write_line_said(
     ensures known { OnOk result (known.new ≡ known_after_command known.old (command_in line.now.text.now)) }
 {
     let Some(command) = read_command(line.text) else {
-        return write_bad_command(alloc, output, line.number, line.text);
+        return write_bad_command(alloc, output, line);
     };
     write_refused_said(alloc, output, known, line, &command)?;
     known.rooms.note(&command)
@@ -341,8 +341,8 @@ fn write_refused_said(
             write_absent_said(alloc, output, strangers, line, command.name())
         }
         Some(refusal) => {
-            let words = refusal.sentence().as_bytes();
-            write_place(alloc, output, line.number, words, &[], line.text)?;
+            let remark = Remark::new(line.number, refusal.sentence());
+            write_place(alloc, output, &remark, &[], line.text)?;
             write_simulators_note(output, known.rooms.simulators_of(command.name()))
         }
     }
@@ -363,8 +363,8 @@ fn write_absent_said(
     if strangers.meet(alloc, bytes)? {
         return Ok(());
     }
-    let words = Refusal::NoRoom.sentence().as_bytes();
-    write_place(alloc, output, line.number, words, &[], line.text)?;
+    let remark = Remark::new(line.number, Refusal::NoRoom.sentence());
+    write_place(alloc, output, &remark, &[], line.text)?;
     write_meant(output, line.script, bytes)
 }
 
@@ -398,18 +398,17 @@ fn write_count_note(output: &mut Text, simulators: u64) -> Result<(), AllocError
     output.put(b"\n")
 }
 
-/// Writes what is said of the line of this number, which is no command.
+/// Writes what is said of a line that is no command.
 fn write_bad_command(
     alloc: Global,
     output: &mut Text,
-    number: u64,
-    line: &[u8],
+    line: &ScriptPart<'_>,
 ) -> Result<(), AllocError>
-    ensures { OnOk result (output.new ≡ output.old ++ bad_command number line.now) }
+    ensures { OnOk result (output.new ≡ output.old ++ bad_command line.now.number line.now.text.now) }
 {
-    let words = TextFault::NoCommand.sentence().as_bytes();
-    write_form_fault(alloc, output, number, words, line, &COMMANDS)?;
-    write_advice(output, &NO_COMMAND, line)
+    let remark = Remark::new(line.number, TextFault::NoCommand.sentence());
+    write_form_fault(alloc, output, &remark, line.text, &COMMANDS)?;
+    write_advice(output, &NO_COMMAND, line.text)
 }
 
 /// Whether a block comes after a line.

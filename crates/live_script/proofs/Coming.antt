@@ -3,13 +3,11 @@ use Rattle.std.proofs.Common.{◌≡◌, ◌∙◌, ℕ, ◌||◌, Bool, true, f
 use Rattle.std.specs.List.{flat_map, list_any}
 use Rattle.std.proofs.lemmas.Grind.{flat_map-append}
 use Rattle.std.proofs.lemmas.List.{append-nil}
-use Rattle.service_core.specs.declared.command.Command.{Command}
-use Rattle.service_core.specs.declared.reply.Reply.{Reply}
 use Rattle.service_core.specs.Rooms.{Entries}
-use Rattle.service_core.proofs.CallerLemmas.{Ran, begins, goes_on}
-use Rattle.script_play.specs.Play.{Done, Faulty, HasRun, Replied, Unread, commands_in, commands_of, ending_if, ending_with, replies_in, reply_of}
+use Rattle.script_play.proofs.CallerLemmas.{run_none, run_on}
+use Rattle.script_play.specs.Play.{Done, HasRun, commands_of, ending_if, ending_with, replies_in}
 use Rattle.live_script.specs.Entries.{Piece, line_after}
-use Rattle.live_script.specs.Answers.{Answer, Did, Malformed, Crowded, AreAnswers, AreLive, IsAnswer, Leaves, LeavesRooms, all_done, done_by, is_out_of_memory, has_refused, open_by}
+use Rattle.live_script.specs.Answers.{Answer, Did, Malformed, Crowded, AreAnswers, AreLive, IsAnswer, LeavesRooms, all_done, done_by, is_out_of_memory, has_refused, open_by}
 use Rattle.live_script.specs.Sessions.{HasCome, IsAnsweredBy, IsNew, line_after_all, open_after_all}
 use Rattle.live_script.specs.declared.live.Live.{Live}
 
@@ -62,31 +60,8 @@ ending-push answers answer =
 
 -- ---- the rooms
 
-as_ran : (commands : List Command) (replies : List Reply) (rooms : Entries) → HasRun commands replies rooms → Ran commands replies rooms
-as_ran commands replies rooms run = record { long = run.answers.count; rooms = run.rooms; answers = run.answers.alone; reports = run.answers.reports; wants = run.answers.wants }
-
-of_ran : (commands : List Command) (replies : List Reply) (rooms : Entries) → Ran commands replies rooms → HasRun commands replies rooms
-of_ran commands replies rooms ran = record { answers = record { count = ran.long; alone = ran.answers; wants = ran.wants; reports = ran.reports }; rooms = ran.rooms }
-
 abbrev RanAll : List Done → Entries → Type 0
 RanAll all rooms = HasRun (commands_of all) (replies_in all) rooms
-
--- nothing that asks the service for anything was done
-none-push : (all : List Done) (done : Done) (rooms after : Entries) → commands_in done ≡ [] → reply_of done ≡ [] → RanAll all rooms → after ≡ rooms → RanAll (all ++ done ∷ []) after
-none-push all done rooms after no_command no_reply ran same =
-    subst (λ (cs : List Command). HasRun cs (replies_in (all ++ done ∷ [])) after) (sym (nothing_more commands_in no_command))
-    (subst (λ (rs : List Reply). HasRun (commands_of all) rs after) (sym (nothing_more reply_of no_reply)) (subst (λ (e : Entries). RanAll all e) (sym same) ran))
-  where
-    nothing_more : {A : Type 0} (of : Done → List A) → of done ≡ [] → flat_map of (all ++ done ∷ []) ≡ flat_map of all
-    nothing_more of none = flat_map-append of all (done ∷ []) ∙ ap (λ (l : List _). flat_map of all ++ (l ++ [])) none ∙ append-nil (flat_map of all)
-
-ran-push : (all : List Done) (done : Done) (rooms after : Entries) → RanAll all rooms → Leaves rooms done after → RanAll (all ++ done ∷ []) after
-ran-push all (Replied command reply) rooms after ran applies =
-    subst (λ (cs : List Command). HasRun cs (replies_in (all ++ Replied command reply ∷ [])) after) (sym (flat_map-append commands_in all (Replied command reply ∷ [])))
-    (subst (λ (rs : List Reply). HasRun (commands_of all ++ command ∷ []) rs after) (sym (flat_map-append reply_of all (Replied command reply ∷ [])))
-    (of_ran _ _ after (goes_on (commands_of all) (replies_in all) command reply rooms after (as_ran _ _ rooms ran) applies)))
-ran-push all (Faulty line fault) rooms after ran same = none-push all (Faulty line fault) rooms after refl refl ran same
-ran-push all (Unread line) rooms after ran same = none-push all (Unread line) rooms after refl refl ran same
 
 done-push : (answers : List Answer) (answer : Answer) → all_done (answers ++ answer ∷ []) ≡ all_done answers ++ done_by answer
 done-push answers answer = flat_map-append done_by answers (answer ∷ []) ∙ ap (λ (l : List Done). all_done answers ++ l) (append-nil (done_by answer))
@@ -98,7 +73,7 @@ same-push answers answer rooms after none ran same =
 
 rooms-push : (answers : List Answer) (answer : Answer) (rooms after : Entries) → RanAll (all_done answers) rooms → LeavesRooms rooms answer after → RanAll (all_done (answers ++ answer ∷ [])) after
 rooms-push answers (Did done) rooms after ran leaves =
-    subst (λ (all : List Done). RanAll all after) (sym (done-push answers (Did done))) (ran-push (all_done answers) done rooms after ran leaves)
+    subst (λ (all : List Done). RanAll all after) (sym (done-push answers (Did done))) (run_on (all_done answers) rooms done after ran leaves)
 rooms-push answers (Malformed line fault) rooms after ran same = same-push answers (Malformed line fault) rooms after refl ran same
 rooms-push answers (Crowded line) rooms after ran same = same-push answers (Crowded line) rooms after refl ran same
 
@@ -107,7 +82,7 @@ rooms-push answers (Crowded line) rooms after ran same = same-push answers (Crow
 pub none_come : (live : Live) → IsNew live → HasCome [] [] live
 none_come live new = record {
   each = tt;
-  ran = of_ran [] [] live.service (begins live.service new.none);
+  ran = run_none live.service new.none;
   open_is = new.open_is;
   line_is = new.line_is;
   ending_is = new.ending_is;
@@ -128,4 +103,4 @@ pub live_of : (pieces : List Piece) (answers : List Answer) (live : Live) → Ha
 live_of pieces answers live come = record { each = come.each; replies = come.ran.answers }
 
 pub none_live : AreLive [] []
-none_live = record { each = tt; replies = (of_ran [] [] [] (begins [] refl)).answers }
+none_live = record { each = tt; replies = (run_none [] refl).answers }

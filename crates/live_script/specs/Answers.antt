@@ -2,13 +2,14 @@
 use Rattle.std.specs.Prelude.{◌≡◌, ⊤, ℕ, ◌+◌, ◌-◌, ◌<◌, ◌≤◌, Bool, true, false, List, [], ◌∷◌, ◌++◌, Result, Ok, Err, min, codes, decimal}
 use Rattle.std.specs.declared.alloc.AllocError.{AllocError}
 use Rattle.std.specs.List.{flat_map, list_any}
-use Rattle.service_core.specs.Rooms.{Applies, Entries}
+use Rattle.service_core.specs.Rooms.{Entries}
 use Rattle.service_core.specs.declared.reply.Reply.{Reply}
 use Rattle.service_core.specs.declared.reply.Reply.TheVariants.{Begun, Closed, Crash, Refused, Report, Settled, Steps}
 use Rattle.room_files.specs.Faults.{text_code}
 use Rattle.room_files.specs.declared.fault.TextFault.{TextFault}
 use Rattle.room_files.specs.declared.outcome.Outcome.{Outcome}
 use Rattle.script_play.specs.Script.{Entry}
+use Rattle.script_play.specs.Following.{Leaves}
 use Rattle.script_play.specs.Play.{AreReplies, Done, Faulty, IsDone, Replied, Unread, commands_of, done_text, ending_if, is_lacking, is_refused, replies_in}
 use Rattle.live_script.specs.Entries.{Piece, Line, Block, asked_by, line_after}
 use Rattle.live_script.specs.declared.live.TheConstants.{MAX_ROOMS}
@@ -115,12 +116,7 @@ ending_of answers = ending_if (list_any is_out_of_memory answers) (list_any has_
 
 -- ---- inside the crate
 
--- what is left of the rooms once this was done: a block that is refused leaves them as they are
-abbrev pub Leaves : Entries → Done → Entries → Type 0
-Leaves rooms (Replied command reply) after = Applies rooms command reply after
-Leaves rooms (Faulty line fault) after = after ≡ rooms
-Leaves rooms (Unread line) after = after ≡ rooms
-
+-- what is left of the rooms after an answer
 abbrev pub LeavesRooms : Entries → Answer → Entries → Type 0
 LeavesRooms rooms (Did done) after = Leaves rooms done after
 LeavesRooms rooms (Malformed line fault) after = after ≡ rooms

@@ -6,9 +6,10 @@ use Rattle.io_text.specs.declared.fault.DeviceFault.{DeviceFault}
 use Rattle.io_text.specs.declared.fault.DeviceFault.TheVariants.{Read, Write, TooLong, Memory}
 use Rattle.room_files.specs.declared.outcome.Outcome.{Outcome}
 use Rattle.room_files.specs.declared.outcome.Outcome.TheVariants.{AllWell}
+use Rattle.script_play.specs.Following.{Leaves}
 use Rattle.script_play.specs.Play.{Done, HasRun, commands_of, done_text, ending_at_refusal, ending_with, is_lacking, is_refused, replies_in}
 use Rattle.live_script.specs.Entries.{AreWhole, IsBegun, IsTooLong, IsWhole, Piece, last_piece, last_pieces, line_after, piece_text, pieces_text}
-use Rattle.live_script.specs.Answers.{Answer, AreAnswers, AreLive, IsAnswer, Leaves, LeavesRooms, all_done, answer_text, answers_text, ending_of, is_out_of_memory, has_refused, long_text, open_by, open_with}
+use Rattle.live_script.specs.Answers.{Answer, AreAnswers, AreLive, IsAnswer, LeavesRooms, all_done, answer_text, answers_text, ending_of, is_out_of_memory, has_refused, long_text, open_by, open_with}
 use Rattle.live_script.specs.declared.live.Live.{Live}
 
 -- ---- what is written for the bytes that were read

@@ -16,3 +16,4 @@ mod settle;
 pub use observer::{Observer, Unobserved};
 pub use reply::{CrashReply, StepReply};
 pub use room::{RoomCore, none_crashed};
+pub use room_words::perform;

@@ -65,9 +65,9 @@ impl Memory<()> for RoomWords {
     ghost goes_on = { Prim.search (rules, length_words_after) };
 }
 
-/// Does the operation on the words, and answers it.
+/// Does a simulator's operation on the words of a room, and answers it. Its word is one of these.
 #[inline(always)]
-fn perform(words: &mut [u64], next: Move) -> u64
+pub fn perform(words: &mut [u64], next: Move) -> u64
     requires { IsWithin next (length words.old) }
     ensures words { words.new ≡ words_after next words.old }
     ensures answer { result ≡ answer_of next words.old }

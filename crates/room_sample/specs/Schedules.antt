@@ -52,6 +52,12 @@ crashes_in schedule = count_by is_crash schedule
 abbrev pub settled_by : RoomSpec → List Stretch → RoomState
 settled_by spec schedule = room_after_settle (room_after_schedule (opening_state spec) schedule)
 
+-- This is the room, once it has settled after a schedule in which at most this many simulators crash.
+pub record IsSettledAfter (spec : RoomSpec) (crashes : ℕ) (schedule : List Stretch) (room : RoomState) : Type 0 where
+  pub may_come : IsSchedule (opening_state spec) schedule
+  pub few : crashes_in schedule ≤ crashes
+  pub room_is : room ≡ settled_by spec schedule
+
 -- The state of each process in the report of a room that has settled after a schedule, in which at most this many simulators crash.
 pub record IsOutcome (spec : RoomSpec) (crashes : ℕ) (schedule : List Stretch) (states : List ProcessState) : Type 0 where
   pub may_come : IsSchedule (opening_state spec) schedule

@@ -14,6 +14,7 @@ mod tally;
 mod workers;
 
 pub use examples::{Example, PartialExamples, Showing, example_of, examples_of};
+pub use run::{Settled, settled_after};
 pub use sampling::{PartialSample, Plan, sample};
 pub use stretch::Stretch;
 pub use tally::{Outcome, States, Tally};

@@ -9,7 +9,7 @@ ghost use Rattle.ws_history.specs.Reports.{report_of};
 ghost use Rattle.room_sample.specs.Chances.{random_in};
 ghost use Rattle.room_sample.specs.Drawn.{Acts, Crashes, Draws, EntersBy, IsLed, IsScheduled, IsThrough, Walks, WalksInto, fuse_after, has_entered, is_look, opening_way, style_from};
 ghost use Rattle.room_sample.specs.Samples.{IsRunFrom};
-ghost use Rattle.room_sample.specs.Schedules.{IsOutcome, longest};
+ghost use Rattle.room_sample.specs.Schedules.{IsOutcome, IsSettledAfter, longest};
 ghost use Rattle.room_sample.specs.Ways.{way_of};
 
 use crate::active::{
@@ -33,6 +33,13 @@ const MOST_STRETCHES: u32 = 65536;
 pub(crate) struct Run {
     pub(crate) states: ArrayVec<ProcessState, MAX_PROCESSES>,
     pub(crate) schedule: Vec<Stretch>,
+}
+
+/// A room that has settled after a schedule.
+#[derive(Drop)]
+pub struct Settled {
+    pub room: RoomCore,
+    pub schedule: Vec<Stretch>,
 }
 
 /// A room on its way, and the schedule that has led to it.
@@ -113,13 +120,34 @@ impl Scheduled {
         }
     }
 
+    /// Settles the room.
+    fn settle(mut self) -> Settled
+        ensures schedule { result.schedule.items ≡ self.schedule.items }
+        ensures room { result.room ≡ room_after_settle self.room }
+    {
+        self.room.settle();
+        Settled {
+            room: self.room,
+            schedule: self.schedule,
+        }
+    }
+
     /// Settles the room, and says the states of its processes.
-    fn settled(mut self) -> Run
+    fn settled(self) -> Run
         ensures schedule { result.schedule.items ≡ self.schedule.items }
         ensures states { (fields : Fields) → AreFieldsOf (room_after_settle self.room) fields →
             result.states.items ≡ (report_of (room_after_settle self.room).spec fields).states.items }
     {
-        self.room.settle();
+        self.settle().run()
+    }
+}
+
+impl Settled {
+    /// The states of its processes, and the schedule.
+    fn run(self) -> Run
+        ensures schedule { result.schedule.items ≡ self.schedule.items }
+        ensures states { (fields : Fields) → AreFieldsOf self.room fields → result.states.items ≡ (report_of self.room.spec fields).states.items }
+    {
         Run {
             states: process_states(&self.room),
             schedule: self.schedule,
@@ -244,6 +272,26 @@ fn act_by_chance(
 }
 
 /// Runs a room of this spec by a schedule, as far as each of its stretches may come, and settles it. At most this many simulators crash.
+///
+/// # Errors
+///
+/// An allocation that fails.
+pub fn settled_after(
+    alloc: Global,
+    spec: Spec,
+    crashes: u32,
+    schedule: &[Stretch],
+) -> Result<Settled, AllocError>
+    ensures { IfOk result (λ settled. IsSettledAfter spec crashes settled.schedule.items settled.room) }
+{
+    let mut scheduled = Scheduled::fresh(alloc, spec, crashes)?;
+    for stretch in schedule {
+        scheduled.follow(*stretch)?;
+    }
+    Ok(scheduled.settle())
+}
+
+/// Runs a room of this spec by a schedule, as far as each of its stretches may come, and settles it. At most this many simulators crash.
 pub(crate) fn run_by(
     alloc: Global,
     spec: Spec,
@@ -252,11 +300,8 @@ pub(crate) fn run_by(
 ) -> Result<Run, AllocError>
     ensures { IfOk result (λ run. IsOutcome spec crashes run.schedule.items run.states.items) }
 {
-    let mut scheduled = Scheduled::fresh(alloc, spec, crashes)?;
-    for stretch in schedule {
-        scheduled.follow(*stretch)?;
-    }
-    Ok(scheduled.settled())
+    let settled = settled_after(alloc, spec, crashes, schedule)?;
+    Ok(settled.run())
 }
 
 /// Runs a room of this spec by a random schedule, in which at most this many simulators crash, and settles it.

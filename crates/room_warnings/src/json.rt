@@ -4,7 +4,7 @@ ghost use Rattle.serde_json.specs.View.{view};
 ghost use Rattle.json_lines.specs.Lines.{json_line};
 ghost use Rattle.room_warnings.specs.Json.{warning_data, warning_in};
 
-use fault_text::write_place;
+use fault_text::{Remark, write_place};
 use io_text::Text;
 use json_lines::{text_value, write_line};
 use serde_json::{Value, json};
@@ -43,7 +43,7 @@ pub(crate) fn write_warning(
         back,
     } = *warning;
     if !format.json {
-        return write_place(alloc, output, number, sentence, front, back);
+        return write_place(alloc, output, &Remark { number, sentence }, front, back);
     }
     write_warning_line(alloc, output, number, front.len() + 1, sentence)
 }

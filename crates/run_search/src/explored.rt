@@ -8,7 +8,7 @@ ghost use Rattle.run_search.specs.Nodes.{AreGathered, CoverAllReachable, HasEdge
 ghost use Rattle.run_search.specs.declared.local_state.LocalState.{LocalState as LocalValue};
 
 use crate::fault::SearchFault;
-use crate::node::{Node, copied};
+use crate::node::{Node, Place, copied};
 use crate::progress::Progress;
 use indexmap::IndexMap;
 use protocol_lang::View;
@@ -101,31 +101,28 @@ impl Explored {
     {
         let count = self.nodes[cursor as usize].count(p);
         for index in 0..count {
-            self.follow(alloc, spec, cursor, p, index)?;
+            let place = Place {
+                node: cursor,
+                process: p,
+                index,
+            };
+            self.follow(alloc, spec, place)?;
         }
         Ok(())
     }
 
-    /// Adds the node that the local state of this index of process `p` leads to from the node `cursor` by a write that changes memory, if it
-    /// does and no other node has all of it.
-    fn follow(
-        &mut self,
-        alloc: Global,
-        spec: &Spec,
-        cursor: u32,
-        p: usize,
-        index: usize,
-    ) -> Result<(), AllocError>
+    /// Adds the node that the local state of this place leads to by a write that changes memory, if it does and no other node has all of it.
+    fn follow(&mut self, alloc: Global, spec: &Spec, place: Place) -> Result<(), AllocError>
         requires searched { IsSearched spec.now self.old }
-        requires process { p < processes spec.now }
-        requires there { (node : NodeValue) × (slice_get self.old.nodes.items cursor ≡ Some node) × (index < length (set_of node p)) }
+        requires process { place.process < processes spec.now }
+        requires there { (node : NodeValue) × (slice_get self.old.nodes.items place.node ≡ Some node) × (place.index < length (set_of node place.process)) }
         ensures searched { OnOk result (IsSearched spec.now self.new) }
         ensures grown { OnOk result (NodesGrow self.old.nodes.items self.new.nodes.items) }
         ensures edge { OnOk result ((node : NodeValue) (local : LocalValue) →
-            slice_get self.old.nodes.items cursor ≡ Some node → slice_get (set_of node p) index ≡ Some local →
-            HasEdge spec.now self.new.nodes.items node p local) }
+            slice_get self.old.nodes.items place.node ≡ Some node → slice_get (set_of node place.process) place.index ≡ Some local →
+            HasEdge spec.now self.new.nodes.items node place.process local) }
     {
-        let Some(to) = self.nodes[cursor as usize].edge(alloc, spec, cursor, p, index)? else {
+        let Some(to) = self.nodes[place.node as usize].edge(alloc, spec, place)? else {
             return Ok(());
         };
         if !self.has_above(&to, 0) {

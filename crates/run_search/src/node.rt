@@ -26,6 +26,21 @@ pub struct Node {
     origin: Origin,
 }
 
+/// A node, and its index among the nodes.
+#[derive(Clone, Copy)]
+pub struct IndexedNode<'a> {
+    pub index: usize,
+    pub node: &'a Node,
+}
+
+/// Where a local state is: the index of its node, the process, and its index among the local states of the process there.
+#[derive(Clone, Copy)]
+pub struct Place {
+    pub node: u32,
+    pub process: usize,
+    pub index: usize,
+}
+
 impl Model for Node {
     ghost use Rattle.std.specs.Prelude.{map};
     ghost use Rattle.run_search.specs.Nodes.{Node as NodeValue};
@@ -89,7 +104,7 @@ impl Node {
         self.sets[p].len()
     }
 
-    /// The node that process `p` leads to by a write, after which it is in this local state.
+    /// The node that the process of this origin leads to by its write, after which it is in this local state.
     ///
     /// # Errors
     ///
@@ -98,44 +113,40 @@ impl Node {
         &self,
         alloc: Global,
         spec: &Spec,
-        p: usize,
         new: LocalState,
         origin: Origin,
     ) -> Result<Node, AllocError>
         requires whole { IsWhole spec.now self.now }
-        requires process { p < processes spec.now }
+        requires process { origin.process < processes spec.now }
         requires rounds { IsWithinRounds spec.now new }
-        ensures next { IfOk result (IsNext spec.now self.now p new) }
+        ensures next { IfOk result (IsNext spec.now self.now origin.process new) }
         ensures origin { IfOk result (λ node. node.origin ≡ origin) }
     {
+        let p = usize::from(origin.process);
+        let own = [new];
         let row = row_with(&self.row, p, new.last);
         let mut sets = Vec::new(alloc);
         for q in 0..spec.n() {
-            let set = self.set_after(alloc, &row, spec, p, new, q)?;
+            let old = self.old_after(p, &own, q);
+            let set = close(alloc, old, &row, spec, q)?;
             sets.push(set)?;
         }
         Ok(Node { row, sets, origin })
     }
 
-    /// The node that the local state of this index of process `p` leads to by a write that changes memory, if it does. `from` is this node's index.
+    /// The node that the local state of this place leads to by a write that changes memory, if it does. This node is that of the place.
     ///
     /// # Errors
     ///
     /// An allocation that fails.
-    pub fn edge(
-        &self,
-        alloc: Global,
-        spec: &Spec,
-        from: u32,
-        p: usize,
-        index: usize,
-    ) -> Result<Option<Node>, AllocError>
+    pub fn edge(&self, alloc: Global, spec: &Spec, place: Place) -> Result<Option<Node>, AllocError>
         requires whole { IsWhole spec.now self.now }
-        requires process { p < processes spec.now }
-        requires there { index < length (set_of self.now p) }
-        ensures { IfOk result (λ to. (local : LocalValue) → slice_get (set_of self.now p) index ≡ Some local → LeadsTo spec.now from self.now p local to) }
+        requires process { place.process < processes spec.now }
+        requires there { place.index < length (set_of self.now place.process) }
+        ensures { IfOk result (λ to. (local : LocalValue) → slice_get (set_of self.now place.process) place.index ≡ Some local → LeadsTo spec.now place.node self.now place.process local to) }
     {
-        let local = self.set(p)[index];
+        let p = place.process;
+        let local = self.set(p)[place.index];
         let Some(new) = moved(&local, &self.row, spec, p) else {
             return Ok(None);
         };
@@ -144,11 +155,11 @@ impl Node {
         }
         let _n = spec.n(); // for the proof: it is at most 16
         let origin = Origin {
-            from,
+            from: place.node,
             process: p as u8,
             local,
         };
-        let to = self.after(alloc, spec, p, new, origin)?;
+        let to = self.after(alloc, spec, new, origin)?;
         Ok(Some(to))
     }
 
@@ -171,27 +182,13 @@ impl Node {
         true
     }
 
-    /// The local states of process `q` in that node, whose row this is.
-    fn set_after(
-        &self,
-        alloc: Global,
-        row: &View,
-        spec: &Spec,
-        p: usize,
-        new: LocalState,
-        q: usize,
-    ) -> Result<LocalSet, AllocError>
-        requires whole { IsWhole spec.now self.now }
-        requires process { q < processes spec.now }
-        requires rounds { IsWithinRounds spec.now new }
-        ensures own { IfOk result (λ set. q ≡ p → IsGrown spec.now row.now.items q (new ∷ []) set.items) }
-        ensures other { IfOk result (λ set. (q ≡ p → ⊥) → IsGrown spec.now row.now.items q (set_of self.now q) set.items) }
+    /// The local states of process `q` just after a write of process `p`, which has these then.
+    fn old_after<'a>(&'a self, p: usize, new: &'a [LocalState], q: usize) -> &'a [LocalState]
+        requires { q < length self.now.sets }
+        ensures own { q ≡ p → result.now ≡ new.now }
+        ensures other { (q ≡ p → ⊥) → result.now ≡ set_of self.now q }
     {
-        if q == p {
-            close(alloc, &[new], row, spec, q)
-        } else {
-            close(alloc, self.set(q), row, spec, q)
-        }
+        if q == p { new } else { self.set(q) }
     }
 
     /// A state from which the write of another node's origin, and then steps that leave the last writes as they are, lead to this state of that node.

@@ -9,7 +9,7 @@ ghost use Rattle.run_search.specs.declared.ended.Ended.{Ended as EndedValue};
 
 use crate::ended::{Ends, ends_of};
 use crate::local_state::State;
-use crate::node::Node;
+use crate::node::{IndexedNode, Node};
 use crate::pick::{Question, events_in, picks_of};
 use indexmap::IndexSet;
 use room_spec::Spec;
@@ -49,33 +49,33 @@ pub fn tally_of(
         witnesses: Vec::new(alloc),
     };
     for index in 0..nodes.len() {
-        tally.take(alloc, spec, crashes, index, &nodes[index])?;
+        let node = &nodes[index];
+        tally.take(alloc, spec, crashes, &IndexedNode { index, node })?;
     }
     Ok(tally)
 }
 
 impl Tally {
-    /// Notes the outcomes of the states that the node of this index covers, if at most `crashes` processes stop in them.
+    /// Notes the outcomes of the states that a node covers, if at most `crashes` processes stop in them.
     fn take(
         &mut self,
         alloc: Global,
         spec: &Spec,
         crashes: usize,
-        index: usize,
-        node: &Node,
+        indexed: &IndexedNode<'_>,
     ) -> Result<(), AllocError>
-        requires width { length node.now.sets ≡ processes spec.now }
+        requires width { length indexed.now.node.now.sets ≡ processes spec.now }
         requires count { length self.old.witnesses.items ≡ length self.old.ends.keys }
         ensures count { OnOk result (length self.new.witnesses.items ≡ length self.new.ends.keys) }
-        ensures noted { OnOk result (AreNoted spec.now node.now crashes self.new.ends.keys self.new.witnesses.items) }
+        ensures noted { OnOk result (AreNoted spec.now indexed.now.node.now crashes self.new.ends.keys self.new.witnesses.items) }
         ensures grown { OnOk result ((ends : List EndedValue) (events : ℕ) →
             IsNoted self.old.ends.keys self.old.witnesses.items ends events → IsNoted self.new.ends.keys self.new.witnesses.items ends events) }
         ensures ends { OnOk result ((nodes : List NodeValue) →
-            slice_get nodes index ≡ Some node.now → AreEnds spec.now nodes crashes self.old.ends.keys self.old.witnesses.items →
+            slice_get nodes indexed.now.index ≡ Some indexed.now.node.now → AreEnds spec.now nodes crashes self.old.ends.keys self.old.witnesses.items →
             AreEnds spec.now nodes crashes self.new.ends.keys self.new.witnesses.items) }
     {
-        let picks = picks_of(alloc, spec, &Question::Ends(crashes), node)?;
-        self.note_all(index, picks.as_slice())?;
+        let picks = picks_of(alloc, spec, &Question::Ends(crashes), indexed.node)?;
+        self.note_all(indexed.index, picks.as_slice())?;
         Ok(())
     }
 

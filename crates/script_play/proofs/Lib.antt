@@ -1,5 +1,6 @@
 pub mod CallerLemmas
 mod Commands
+mod Followed
 mod OwnBlocks
 mod Playing
 mod Scripts

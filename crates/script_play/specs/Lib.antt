@@ -1,3 +1,4 @@
+pub mod Following
 pub mod Play
 pub mod ReplyTexts
 pub mod Script

@@ -127,45 +127,12 @@ abbrev pub refusal_in : Reply → Option Refusal
 refusal_in (Refused refusal) = Some refusal
 refusal_in reply = None
 
--- All of some list was done, and now one more. Each is a predicate on lists of what was done.
-abbrev pub DoesMore : (List Done → Type 0) → Done → (List Done → Type 0) → Type 0
-DoesMore before done after = (all : List Done) → before all → after (all ++ done ∷ [])
-
--- a command was done to the rooms, and is the last thing that was done; this says why it was refused, if it was
-pub record IsPerformed (rooms : Entries) (before : List Done → Type 0) (command : Command) (refusal : Option Refusal) (rooms_after : Entries) (after : List Done → Type 0) : Type 0 where
-  pub reply : Reply
-  pub applies : Applies rooms command reply rooms_after
-  pub refusal_is : refusal ≡ refusal_in reply
-  pub done : DoesMore before (Replied command reply) after
-
 -- ---- while it runs
 
 -- what a service that has been given these commands has become
 pub record HasRun (commands : List Command) (replies : List Reply) (entries : Entries) : Type 0 where
   pub answers : AreReplies commands replies
   pub rooms : (name : List ℕ) → IsStateOf (room_at entries name) (room_after_all None (part name (granted commands replies)))
-
--- and what has come of a script's entries so far
-pub record HasPlayed (rooms : Entries) (has_done : List Done → Type 0) (ending : Result Outcome AllocError) (all : List Done) : Type 0 where
-  pub ran : HasRun (commands_of all) (replies_in all) rooms
-  pub done : has_done all
-  pub ending_is : ending ≡ ending_of all
-
--- one command more, with some reply
-abbrev pub PlaysCommand : Command → (List Done → Type 0) → (List Done → Type 0) → Type 0
-PlaysCommand command before after = (reply : Reply) × DoesMore before (Replied command reply) after
-
--- one entry more, of which this came
-abbrev pub PlaysOn : Entry → (List Done → Type 0) → (List Done → Type 0) → Type 0
-PlaysOn entry before after = (all : List Done) → before all → (done : Done) × IsDone entry done × after (all ++ done ∷ [])
-
--- what comes of a whole script: of each of its entries, of the rooms, and at the end
-pub record IsPlay (input : List ℕ) (rooms : Entries) (has_done : List Done → Type 0) (ending : Result Outcome AllocError) : Type 0 where
-  pub entries : List Entry
-  pub asked : script_says input ≡ Ok entries
-  pub all : List Done
-  pub each_entry : AreDone entries all
-  pub played : HasPlayed rooms has_done ending all
 
 -- the end with one refusal more, which is not an allocation that failed
 abbrev pub ending_at_refusal : Result Outcome AllocError → Result Outcome AllocError

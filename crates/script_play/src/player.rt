@@ -1,35 +1,45 @@
 //! What comes of a script's entries, one by one.
-ghost use Rattle.std.specs.Prelude.{◌≡◌, ◌<◌, ◌+◌, ◌^◌, [], true, Ok, Some, IfOk, OnOk, is_some};
+ghost use Rattle.std.specs.Prelude.{◌≡◌, ◌<◌, ◌+◌, ◌^◌, [], true, None, Ok, Some, IfOk, OnOk, is_some};
 ghost use Rattle.service_core.specs.declared.command.Command.{Command as CommandData};
-ghost use Rattle.service_core.specs.declared.command.Command.TheVariants.{Begin, Step};
+ghost use Rattle.service_core.specs.declared.command.Command.TheVariants.{Begin, Report, Step};
+ghost use Rattle.service_core.specs.declared.reply.Reply.{Reply as ReplyData};
+ghost use Rattle.service_core.specs.declared.reply.Reply.TheVariants.{Refused};
+ghost use Rattle.service_core.specs.Replies.{name_in};
+ghost use Rattle.service_core.specs.Rooms.{Applies, Entries, room_at, steps_of};
+ghost use Rattle.room_files.specs.declared.outcome.Outcome.TheVariants.{AllWell};
 ghost use Rattle.room_spec.specs.Names.{is_name};
-ghost use Rattle.script_play.specs.Script.{Entry as Asked, Open, asks_at, command_in, is_asking};
-ghost use Rattle.script_play.specs.Play.{HasPlayed, IsBlockOf, OpensNone, PlaysCommand, PlaysOn, ending_with, is_lack};
+ghost use Rattle.script_play.specs.Script.{Entry as EntryData, Open, asks_at, command_in, is_asking};
+ghost use Rattle.script_play.specs.Play.{Done, Faulty, IsBlockOf, IsDone, OpensNone, Replied, Unread, ending_with, is_lack};
+ghost use Rattle.script_play.specs.Following.{AreWatched, GoesOn, IsAsked};
 
 use crate::entries::{Entry, read_command};
-use crate::script::Performs;
+use crate::following::{Asked, Follows, Order, order_of};
+use crate::reply::refusal_in;
 use crate::steps::read_steps;
+use room_core::Observer;
 use room_files::{Outcome, read_room};
-use room_spec::{Name, Spec};
-use service_core::{Command, Refusal};
+use room_spec::{Name, Spec, SpecFault};
+use service_core::{Command, Refusal, Reply, Service};
 use std::alloc::{AllocError, Global};
 
-/// The one that executes the commands of a script, and how it ends.
+/// The rooms of a script, the one that follows it, and how it ends.
 #[derive(Drop)]
-pub(crate) struct Player<P: Performs> {
-    pub(crate) performer: P,
+pub(crate) struct Player<F: Follows> {
+    pub(crate) service: Service,
+    pub(crate) follower: F,
     /// How the script ends if nothing more is refused.
     pub(crate) ending: Result<Outcome, AllocError>,
 }
 
-impl<P: Performs> Player<P> {
-    pub(crate) fn new(performer: P) -> Player<P>
-        requires rooms { P.rooms performer ≡ [] }
-        requires done { P.has_done performer [] }
-        ensures { HasPlayed (P.rooms result.performer) (P.has_done result.performer) result.ending [] }
+impl<F: Follows> Player<F> {
+    pub(crate) fn new(alloc: Global, follower: F) -> Player<F>
+        ensures service { result.service ≡ [] }
+        ensures follower { result.follower ≡ follower }
+        ensures ending { result.ending ≡ Ok AllWell }
     {
         Player {
-            performer,
+            service: Service::new(alloc),
+            follower,
             ending: Ok(Outcome::AllWell),
         }
     }
@@ -44,9 +54,8 @@ impl<P: Performs> Player<P> {
     ) -> Result<bool, AllocError>
         requires { number + 1 < 2 ^ 64 }
         ensures good { IfOk result (λ good. good ≡ is_asking entry.now) }
-        ensures plays { OnOk result ((asked : Asked) → asks_at number entry.now ≡ Ok asked → PlaysOn asked
-            (HasPlayed (P.rooms self.old.performer) (P.has_done self.old.performer) self.old.ending)
-            (HasPlayed (P.rooms self.new.performer) (P.has_done self.new.performer) self.new.ending)) }
+        ensures plays { OnOk result ((asked : EntryData) → asks_at number entry.now ≡ Ok asked → (done : Done) × IsDone asked done ×
+            GoesOn F.follows self.old.service self.old.follower self.old.ending done self.new.service self.new.follower self.new.ending) }
     {
         let line = match entry {
             Entry::Block(block) => {
@@ -65,9 +74,8 @@ impl<P: Performs> Player<P> {
     #[inline(never)]
     fn obey(&mut self, alloc: Global, line: &[u8]) -> Result<bool, AllocError>
         ensures good { IfOk result (λ good. good ≡ is_some (command_in line.now)) }
-        ensures plays { OnOk result ((command : CommandData) → command_in line.now ≡ Some command → PlaysCommand command
-            (HasPlayed (P.rooms self.old.performer) (P.has_done self.old.performer) self.old.ending)
-            (HasPlayed (P.rooms self.new.performer) (P.has_done self.new.performer) self.new.ending)) }
+        ensures plays { OnOk result ((command : CommandData) → command_in line.now ≡ Some command → (reply : ReplyData) ×
+            GoesOn F.follows self.old.service self.old.follower self.old.ending (Replied command reply) self.new.service self.new.follower self.new.ending) }
     {
         let Some(command) = read_command(line) else {
             return Ok(false);
@@ -80,70 +88,165 @@ impl<P: Performs> Player<P> {
     #[tactic(auto, using(crate::proofs::OwnBlocks::block_within, crate::proofs::OwnBlocks::own_block))]
     #[inline(never)]
     fn open(&mut self, alloc: Global, number: u64, block: &[u8]) -> Result<(), AllocError>
-        ensures { OnOk result (PlaysOn (Open number block.now)
-            (HasPlayed (P.rooms self.old.performer) (P.has_done self.old.performer) self.old.ending)
-            (HasPlayed (P.rooms self.new.performer) (P.has_done self.new.performer) self.new.ending)) }
+        ensures { OnOk result ((done : Done) × IsDone (Open number block.now) done ×
+            GoesOn F.follows self.old.service self.old.follower self.old.ending done self.new.service self.new.follower self.new.ending) }
     {
         match read_room(alloc, block) {
             Ok(Ok((spec, len))) => self.begin(alloc, &block[..len], spec),
-            Ok(Err(fault)) => {
-                self.ending = self.ending.and(Ok(Outcome::SomeRefused));
-                self.performer.refuse(number, fault)
-            }
-            Err(AllocError) => {
-                self.ending = Err(AllocError);
-                self.performer.lack(number)
-            }
+            Ok(Err(fault)) => self.refuse(number, fault),
+            Err(AllocError) => self.lack(number),
         }
     }
 
     /// Opens the room that a block says.
     fn begin(&mut self, alloc: Global, block: &[u8], spec: Spec) -> Result<(), AllocError>
         requires { IsBlockOf spec block.now }
-        ensures { OnOk result (PlaysCommand (Begin spec)
-            (HasPlayed (P.rooms self.old.performer) (P.has_done self.old.performer) self.old.ending)
-            (HasPlayed (P.rooms self.new.performer) (P.has_done self.new.performer) self.new.ending)) }
+        ensures { OnOk result ((reply : ReplyData) ×
+            GoesOn F.follows self.old.service self.old.follower self.old.ending (Replied (Begin spec) reply) self.new.service self.new.follower self.new.ending) }
     {
-        let refusal = self.performer.open(alloc, block, spec)?;
-        self.ending = ending_with(refusal, self.ending);
-        Ok(())
+        let name = spec.name().clone()?;
+        let watch = self.follower.opens(alloc, block, &spec)?;
+        let asked = Asked {
+            name: name.as_str().as_bytes(),
+            order: Order::Open,
+        };
+        self.execute(alloc, &asked, Command::Begin(spec), watch)
+    }
+
+    /// Refuses a block for a fault of its own. Its first line has this number.
+    fn refuse(&mut self, number: u64, fault: SpecFault) -> Result<(), AllocError>
+        ensures { OnOk result (GoesOn F.follows self.old.service self.old.follower self.old.ending (Faulty number fault) self.new.service self.new.follower self.new.ending) }
+    {
+        self.ending = self.ending.and(Ok(Outcome::SomeRefused));
+        self.follower.refuse(number, fault)
+    }
+
+    /// Refuses a block because an allocation failed. Its first line has this number.
+    fn lack(&mut self, number: u64) -> Result<(), AllocError>
+        ensures { OnOk result (GoesOn F.follows self.old.service self.old.follower self.old.ending (Unread number) self.new.service self.new.follower self.new.ending) }
+    {
+        self.ending = Err(AllocError);
+        self.follower.lack(number)
     }
 
     /// Does a command, which opens no room.
     fn perform(&mut self, alloc: Global, command: Command) -> Result<(), AllocError>
         requires { OpensNone command }
-        ensures { OnOk result (PlaysCommand command
-            (HasPlayed (P.rooms self.old.performer) (P.has_done self.old.performer) self.old.ending)
-            (HasPlayed (P.rooms self.new.performer) (P.has_done self.new.performer) self.new.ending)) }
+        ensures { OnOk result ((reply : ReplyData) ×
+            GoesOn F.follows self.old.service self.old.follower self.old.ending (Replied command reply) self.new.service self.new.follower self.new.ending) }
     {
-        let refusal = self.performer.perform(alloc, command)?;
+        if let Command::Report(name) = &command {
+            return self.report(alloc, name);
+        }
+        let name = command.name().clone()?;
+        let asked = Asked {
+            name: name.as_str().as_bytes(),
+            order: order_of(&command),
+        };
+        let watch = self.follower.before(alloc, &asked, &self.service)?;
+        self.execute(alloc, &asked, command, watch)
+    }
+
+    /// Reports on the room of this name.
+    fn report(&mut self, alloc: Global, name: &Name) -> Result<(), AllocError>
+        ensures { OnOk result ((reply : ReplyData) ×
+            GoesOn F.follows self.old.service self.old.follower self.old.ending (Replied (Report name.now) reply) self.new.service self.new.follower self.new.ending) }
+    {
+        let refusal = self.follower.report(alloc, name, &self.service)?;
         self.ending = ending_with(refusal, self.ending);
         Ok(())
     }
 
-    /// Lets a simulator of the room of this name take steps. Gives whether these bytes are a name.
+    /// Executes a command, for which the one that follows is ready.
+    fn execute(
+        &mut self,
+        alloc: Global,
+        asked: &Asked<'_>,
+        command: Command,
+        watch: Option<F::Watch>,
+    ) -> Result<(), AllocError>
+        requires { IsAsked asked.now command }
+        ensures { OnOk result ((first : F) → F.readies first self.old.service command self.old.follower watch → (reply : ReplyData) ×
+            GoesOn F.follows self.old.service first self.old.ending (Replied command reply) self.new.service self.new.follower self.new.ending) }
+    {
+        let mut watch = watch;
+        let reply = apply_watched(&mut self.service, alloc, command, &mut watch);
+        self.ending = ending_with(refusal_in(&reply), self.ending);
+        self.follower.after(asked, reply, &mut watch, &self.service)
+    }
+
+    /// Lets a simulator of the room of this name take steps. Gives whether these bytes are a name: if not, the line is malformed, and
+    /// nothing that was done matters.
     fn step(&mut self, alloc: Global, name: &[u8], sim: u8, count: u16) -> Result<bool, AllocError>
         ensures good { IfOk result (λ good. good ≡ is_name name.now) }
-        ensures plays { OnOk result (PlaysCommand (Step name.now sim count)
-            (HasPlayed (P.rooms self.old.performer) (P.has_done self.old.performer) self.old.ending)
-            (HasPlayed (P.rooms self.new.performer) (P.has_done self.new.performer) self.new.ending)) }
+        ensures plays { OnOk result (is_name name.now ≡ true → (reply : ReplyData) ×
+            GoesOn F.follows self.old.service self.old.follower self.old.ending (Replied (Step name.now sim count) reply) self.new.service self.new.follower self.new.ending) }
     {
-        match self.performer.step(alloc, name, sim, count)? {
-            None => Ok(true),
-            Some(refusal) => Ok(self.note_refusal(name, refusal)),
+        let asked = Asked {
+            name,
+            order: Order::Step { sim, count },
+        };
+        match self.follower.before(alloc, &asked, &self.service)? {
+            None => self.step_unseen(&asked, sim, count),
+            watch => {
+                let Some(name) = Name::read(name) else {
+                    return Ok(false);
+                };
+                self.execute(alloc, &asked, Command::Step { name, sim, count }, watch)?;
+                Ok(true)
+            }
         }
     }
 
-    /// Notes that the room of this name was refused steps. Gives whether these bytes are a name.
+    /// Lets a simulator take steps that nothing sees, with neither a command nor a reply made. Gives whether the bytes are a name.
+    #[inline]
+    fn step_unseen(&mut self, asked: &Asked<'_>, sim: u8, count: u16) -> Result<bool, AllocError>
+        requires { IsAsked asked.now (Step asked.now.name.now sim count) }
+        ensures good { IfOk result (λ good. good ≡ is_name asked.now.name.now) }
+        ensures plays { OnOk result (is_name asked.now.name.now ≡ true → (first : F) → F.readies first self.old.service (Step asked.now.name.now sim count) self.old.follower None → (reply : ReplyData) ×
+            GoesOn F.follows self.old.service first self.old.ending (Replied (Step asked.now.name.now sim count) reply) self.new.service self.new.follower self.new.ending) }
+    {
+        match self.service.step(asked.name, sim, count) {
+            Ok((taken, last)) => {
+                self.follower.stepped(asked, taken, last, &self.service)?;
+                Ok(true)
+            }
+            Err(refusal) => self.refuse_steps(asked, refusal),
+        }
+    }
+
+    /// Has it followed that steps were refused. Gives whether the bytes are a name.
     #[cold]
     #[inline(never)]
-    fn note_refusal(&mut self, name: &[u8], refusal: Refusal) -> bool
-        ensures good { result ≡ is_name name.now }
-        ensures ending { self.new.ending ≡ ending_with (is_lack (Some refusal)) true self.old.ending }
-        ensures performer { self.new.performer ≡ self.old.performer }
+    fn refuse_steps(&mut self, asked: &Asked<'_>, refusal: Refusal) -> Result<bool, AllocError>
+        ensures good { IfOk result (λ good. good ≡ is_name asked.now.name.now) }
+        ensures plays { OnOk result (is_name asked.now.name.now ≡ true → (first : F) (earlier : Entries) (command : CommandData) → IsAsked asked.now command → F.readies first earlier command self.old.follower None →
+            Applies earlier command (Refused refusal) self.old.service →
+            GoesOn F.follows earlier first self.old.ending (Replied command (Refused refusal)) self.new.service self.new.follower self.new.ending) }
     {
+        if Name::read(asked.name).is_none() {
+            return Ok(false);
+        }
         self.ending = ending_with(Some(refusal), self.ending);
-        Name::read(name).is_some()
+        self.follower
+            .after(asked, Reply::Refused(refusal), &mut None, &self.service)?;
+        Ok(true)
+    }
+}
+
+/// Does what a command asks, and has its steps seen if something is to see them.
+fn apply_watched<W: Observer>(
+    service: &mut Service,
+    alloc: Global,
+    command: Command,
+    watch: &mut Option<W>,
+) -> Reply
+    ensures applies { Applies service.old command result service.new }
+    ensures seen { AreWatched W.sees watch.old (steps_of (room_at service.old (name_in command)) command) watch.new }
+{
+    match watch {
+        Some(watch) => service.apply_observed(alloc, command, watch),
+        None => service.apply(alloc, command),
     }
 }
 

@@ -152,14 +152,24 @@ impl Service {
         Ok(replies)
     }
 
-    /// The room that is open under this name, if one is.
-    pub fn room(&self, name: &Name) -> Option<&RoomCore>
+    /// The room that is open under the name that these bytes are, if one is.
+    pub fn room(&self, name: &[u8]) -> Option<&RoomCore>
         ensures { MatchOption result (room_at self.now name.now ≡ None) (λ room. room_at self.now name.now ≡ Some room.now) }
     {
-        self.rooms.get(name)
+        self.rooms.get(Spelled { bytes: name })
     }
 
-    /// Does what the command [`Report`](Command::Report) does, with the history passed to a sink in place of a list.
+    /// Does what the command [`Report`](Command::Report) does, which changes no room.
+    pub fn report(&self, alloc: Global, name: &Name) -> Reply
+        ensures { Applies self.now (Report name.now) result self.now }
+    {
+        match self.rooms.get(name) {
+            Some(room) => answer_report(alloc, room),
+            None => Reply::Refused(Refusal::NoRoom),
+        }
+    }
+
+    /// Does what [`report`](Service::report) does, with the history passed to a sink in place of a list.
     ///
     /// # Errors
     ///
@@ -215,16 +225,6 @@ impl Service {
         let room = RoomCore::fresh(alloc, spec)?;
         self.rooms.insert(name, room)?;
         Ok(())
-    }
-
-    /// The report of the room of this name, if there is one.
-    fn report(&self, alloc: Global, name: &Name) -> Reply
-        ensures { Applies self.now (Report name.now) result self.now }
-    {
-        match self.rooms.get(name) {
-            Some(room) => answer_report(alloc, room),
-            None => Reply::Refused(Refusal::NoRoom),
-        }
     }
 
     /// Asks the room of this name for something, if there is one. It takes no memory.

@@ -12,3 +12,5 @@ pub use Rattle.simulator.proofs.Ranging.{within}
 pub use Rattle.simulator.proofs.Spending.{steps_bounded}
 pub use Rattle.simulator.proofs.Stepping.{begins, bounded, finishes, keeps_number, moves, open_moves, rest_line, runs_out, stays_in_turn, steps_by_one, turn_ends}
 pub use Rattle.simulator.proofs.Visiting.{all_visited}
+pub use Rattle.simulator.proofs.Knowing.{goes_alike, knows_mind, wants_same}
+pub use Rattle.simulator.proofs.Alike.{same_knowledge}

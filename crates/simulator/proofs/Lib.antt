@@ -18,3 +18,5 @@ mod Longer
 mod Valued
 mod Proposed
 mod Rowed
+mod Knowing
+mod Alike

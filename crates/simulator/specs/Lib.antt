@@ -9,3 +9,4 @@ pub mod Bounds
 pub mod Notes
 pub mod Runs
 pub mod Parts
+pub mod Knowing

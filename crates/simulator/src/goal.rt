@@ -11,7 +11,7 @@ use room_spec::{MAX_PROCESSES, Spec};
 
 /// How far a simulator knows a process to be, and what it does for it next. Rounds are counted
 /// from 1.
-#[derive(Clone, Copy, Default)]
+#[derive(Clone, Copy, PartialEq, Eq, Hash, Default)]
 pub enum Goal {
     /// Store the process's write of this round, and agree on the snapshot after it.
     Write { round: u8, value: u32 },

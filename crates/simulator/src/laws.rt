@@ -13,6 +13,9 @@ ghost use Rattle.simulator.specs.declared.sweep.Ready.TheVariants as answers;
 ghost use Rattle.simulator.specs.declared.turn.Turn.TheVariants.{Still};
 ghost use Rattle.simulator.specs.Bounds.{IsReadyThroughout, answered_all};
 ghost use Rattle.simulator.specs.Firsts.{IsVisited};
+ghost use Rattle.simulator.specs.contracts.knowledge.KnowledgePartialEq.TheImpl.{ghosts as tests};
+ghost use Rattle.simulator.specs.declared.knowledge.Knowledge.{Knowledge};
+ghost use Rattle.simulator.specs.Knowing.{knowledge_of, mind_of};
 ghost use Rattle.simulator.specs.Minds.{MindState, current_goal, goal_at, is_unfinished, opening_mind, unfinished_in};
 ghost use Rattle.simulator.specs.Moves.{IsOperation, IsWithin, move_of, taken};
 ghost use Rattle.simulator.specs.Quiet.{HasNoWrite, IsQuietCount};
@@ -144,4 +147,17 @@ pub fn sweeps_go_round()
     ensures { (spec : RoomSpec) (mind : MindState) (process : ℕ) →
         IsMind spec mind → is_unfinished (current_goal mind) ≡ true → IsVisited (current_goal mind) →
         IsVisited (goal_at mind.goals process) }
+{}
+
+/// Simulators that know the same go on alike: a mind that knows what another does is one of the room, wants the same operation while turns
+/// are left, and knows the same after it.
+pub fn knowledge_goes_on()
+    ensures is_mind { (spec : RoomSpec) (mind : MindState) → IsMind spec mind → IsMind spec (mind_of (knowledge_of mind)) }
+    ensures wants { (spec : RoomSpec) (mind : MindState) →
+        IsMind spec mind → IsOperation (move_of spec mind) →
+        move_of spec (mind_of (knowledge_of mind)) ≡ move_of spec mind }
+    ensures knows { (spec : RoomSpec) (mind : MindState) (answer : ℕ) →
+        knowledge_of (taken spec (mind_of (knowledge_of mind)) answer).mind ≡ knowledge_of (taken spec mind answer).mind }
+    // What `==` finds equal is the same.
+    ensures equal { (one other : Knowledge) → tests.eq one other ≡ true → one ≡ other }
 {}

@@ -10,6 +10,7 @@
 #![tactic(auto)]
 
 mod goal;
+mod knowledge;
 pub mod laws;
 mod line;
 mod memory;
@@ -26,6 +27,7 @@ mod turn;
 mod words;
 
 pub use goal::Goal;
+pub use knowledge::Knowledge;
 pub use line::Line;
 pub use memory::Memory;
 pub use mind::Mind;

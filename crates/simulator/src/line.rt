@@ -1,7 +1,7 @@
 //! Where a simulator is in its turn: its program counter.
 
 /// The atomic step that a simulator takes next, on the process at which its sweep is.
-#[derive(Clone, Copy, PartialEq, Eq, Default)]
+#[derive(Clone, Copy, PartialEq, Eq, Hash, Default)]
 pub enum Line {
     /// None yet: it is between two turns. A turn begins with the store of the process's next
     /// write or, where that was made, with an ask.

@@ -4,6 +4,7 @@ ghost use Rattle.simulator.specs.Moves.{IsOperation, move_of};
 ghost use Rattle.simulator.specs.Ranges.{IsMind};
 
 use crate::operation::Move;
+use room_spec::Spec;
 
 /// What does the operations of minds, one word at a time. `C` is what it needs for that in addition.
 pub trait Memory<C> {
@@ -30,6 +31,13 @@ pub trait Memory<C> {
     ghost goes_on: { (memory : Self) (context : C) (spec : RoomSpec) (mind : MindState) (answer : ℕ) (next : Self) →
         serves memory context spec mind → IsMind spec mind → IsOperation (move_of spec mind) → does memory (move_of spec mind) answer next →
         serves next context spec (taken spec mind answer).mind };
+}
+
+/// The room in which a mind takes steps: its spec, and what its memory needs in addition for the operations.
+#[derive(Drop)]
+pub(crate) struct Room<'a, C> {
+    pub(crate) spec: &'a Spec,
+    pub(crate) context: &'a C,
 }
 
 /// A memory that is not looked into: this is its answer to each operation.

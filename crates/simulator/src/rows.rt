@@ -16,12 +16,11 @@ ghost use Rattle.simulator.specs.Turns.{words_in};
 
 use crate::goal::Goal;
 use crate::line::Line;
-use crate::memory::Memory;
+use crate::memory::{Memory, Room};
 use crate::mind::Mind;
 use crate::part::Part;
 use crate::turn::Turn;
 use crate::words::chosen_in;
-use room_spec::Spec;
 use safe_agreement::has_level;
 
 /// The atomic steps of a run so far: how many, what has become of the turn, and the line that comes then.
@@ -70,23 +69,22 @@ impl Mind {
     #[inline(always)]
     pub(crate) fn in_a_row<C, M: Memory<C>>(
         &mut self,
-        spec: &Spec,
+        room: &Room<'_, C>,
         most: u64,
         run: &mut Run,
-        context: &C,
         memory: &mut M,
     )
-        requires wants { Wants M.serves context.now spec.now memory.old (at_line run.old.line self.old) run.old.turn }
-        ensures wants { Wants M.serves context.now spec.now memory.new (at_line run.new.line self.new) run.new.turn }
-        ensures continues { Continues M.does spec.now run.old.count memory.old (at_line run.old.line self.old) run.old.turn run.new.count memory.new (at_line run.new.line self.new) run.new.turn }
+        requires wants { Wants M.serves room.now.context.now room.now.spec.now memory.old (at_line run.old.line self.old) run.old.turn }
+        ensures wants { Wants M.serves room.now.context.now room.now.spec.now memory.new (at_line run.new.line self.new) run.new.turn }
+        ensures continues { Continues M.does room.now.spec.now run.old.count memory.old (at_line run.old.line self.old) run.old.turn run.new.count memory.new (at_line run.new.line self.new) run.new.turn }
         ensures more { run.old.count ≤ run.new.count }
         ensures most { run.old.count ≤ most → run.new.count ≤ most }
     {
-        self.along_write(spec, most, run, context, memory);
-        self.along_proposal(spec, most, run, context, memory);
-        self.along_view(spec, most, run, context, memory);
-        self.along_values(spec, most, run, context, memory);
-        self.along_out(spec, most, run, context, memory);
+        self.along_write(room, most, run, memory);
+        self.along_proposal(room, most, run, memory);
+        self.along_view(room, most, run, memory);
+        self.along_values(room, most, run, memory);
+        self.along_out(room, most, run, memory);
     }
 
     /// Takes the first steps of a turn that begins with a write, if eight are left: all eight of its proposal if the memory
@@ -94,15 +92,14 @@ impl Mind {
     #[inline(always)]
     fn along_write<C, M: Memory<C>>(
         &mut self,
-        spec: &Spec,
+        room: &Room<'_, C>,
         most: u64,
         run: &mut Run,
-        context: &C,
         memory: &mut M,
     )
-        requires wants { Wants M.serves context.now spec.now memory.old (at_line run.old.line self.old) run.old.turn }
-        ensures wants { Wants M.serves context.now spec.now memory.new (at_line run.new.line self.new) run.new.turn }
-        ensures continues { Continues M.does spec.now run.old.count memory.old (at_line run.old.line self.old) run.old.turn run.new.count memory.new (at_line run.new.line self.new) run.new.turn }
+        requires wants { Wants M.serves room.now.context.now room.now.spec.now memory.old (at_line run.old.line self.old) run.old.turn }
+        ensures wants { Wants M.serves room.now.context.now room.now.spec.now memory.new (at_line run.new.line self.new) run.new.turn }
+        ensures continues { Continues M.does room.now.spec.now run.old.count memory.old (at_line run.old.line self.old) run.old.turn run.new.count memory.new (at_line run.new.line self.new) run.new.turn }
         ensures more { run.old.count ≤ run.new.count }
         ensures most { run.old.count ≤ most → run.new.count ≤ most }
     {
@@ -116,18 +113,18 @@ impl Mind {
             return;
         };
         let part = Part {
-            shape: spec.shape(),
+            shape: room.spec.shape(),
             simulator: self.number(),
             process,
             round: usize::from(round),
         };
         if part.shape.memory_words() == 1 {
-            self.take_opening(spec, &part, value, context, memory);
+            self.take_opening(room, &part, value, memory);
             run.count += 4;
-            let row = self.take_agreement(spec, &part, context, memory);
+            let row = self.take_agreement(room, &part, memory);
             run.add(&row);
         } else {
-            self.take_write(spec, &part, value, context, memory);
+            self.take_write(room, &part, value, memory);
             run.count += 2;
             run.line = Line::Snap;
         }
@@ -137,22 +134,21 @@ impl Mind {
     #[inline(always)]
     fn take_write<C, M: Memory<C>>(
         &mut self,
-        spec: &Spec,
+        room: &Room<'_, C>,
         part: &Part,
         value: u32,
-        context: &C,
         memory: &mut M,
     )
-        requires wants { Wants M.serves context.now spec.now memory.old (at_line Rest self.old) Still }
+        requires wants { Wants M.serves room.now.context.now room.now.spec.now memory.old (at_line Rest self.old) Still }
         requires process { next_process self.old.goals self.old.process ≡ Some part.now.process }
         requires goal { goal_at self.old.goals part.now.process ≡ goals.Write part.now.round value }
         requires simulator { part.now.simulator ≡ self.old.number }
-        requires sizes { sizes_of part.now.shape ≡ sizes_in spec.now }
-        ensures wants { Wants M.serves context.now spec.now memory.new (at_line Snap self.new) Still }
-        ensures continues { (count : ℕ) → Continues M.does spec.now count memory.old (at_line Rest self.old) Still (count + 2) memory.new (at_line Snap self.new) Still }
+        requires sizes { sizes_of part.now.shape ≡ sizes_in room.now.spec.now }
+        ensures wants { Wants M.serves room.now.context.now room.now.spec.now memory.new (at_line Snap self.new) Still }
+        ensures continues { (count : ℕ) → Continues M.does room.now.spec.now count memory.old (at_line Rest self.old) Still (count + 2) memory.new (at_line Snap self.new) Still }
     {
-        memory.operate(context, part.write(value));
-        memory.operate(context, part.raise());
+        memory.operate(room.context, part.write(value));
+        memory.operate(room.context, part.raise());
         self.begin_on(part.process);
         self.count_steps(2);
     }
@@ -162,26 +158,25 @@ impl Mind {
     #[inline(always)]
     fn take_opening<C, M: Memory<C>>(
         &mut self,
-        spec: &Spec,
+        room: &Room<'_, C>,
         part: &Part,
         value: u32,
-        context: &C,
         memory: &mut M,
     )
-        requires wants { Wants M.serves context.now spec.now memory.old (at_line Rest self.old) Still }
-        requires one { words_in spec.now ≡ 1 }
+        requires wants { Wants M.serves room.now.context.now room.now.spec.now memory.old (at_line Rest self.old) Still }
+        requires one { words_in room.now.spec.now ≡ 1 }
         requires process { next_process self.old.goals self.old.process ≡ Some part.now.process }
         requires goal { goal_at self.old.goals part.now.process ≡ goals.Write part.now.round value }
         requires simulator { part.now.simulator ≡ self.old.number }
-        requires sizes { sizes_of part.now.shape ≡ sizes_in spec.now }
-        ensures wants { Wants M.serves context.now spec.now memory.new (at_line Enter self.new) Still }
-        ensures continues { (count : ℕ) → Continues M.does spec.now count memory.old (at_line Rest self.old) Still (count + 4) memory.new (at_line Enter self.new) Still }
-        ensures part { IsPartOf spec.now self.new part.now }
+        requires sizes { sizes_of part.now.shape ≡ sizes_in room.now.spec.now }
+        ensures wants { Wants M.serves room.now.context.now room.now.spec.now memory.new (at_line Enter self.new) Still }
+        ensures continues { (count : ℕ) → Continues M.does room.now.spec.now count memory.old (at_line Rest self.old) Still (count + 4) memory.new (at_line Enter self.new) Still }
+        ensures part { IsPartOf room.now.spec.now self.new part.now }
     {
-        memory.operate(context, part.write(value));
-        memory.operate(context, part.raise());
-        let word = memory.operate(context, part.snap(0));
-        memory.operate(context, part.show(0, word));
+        memory.operate(room.context, part.write(value));
+        memory.operate(room.context, part.raise());
+        let word = memory.operate(room.context, part.snap(0));
+        memory.operate(room.context, part.show(0, word));
         self.put_word(0, word);
         self.begin_on(part.process);
         self.count_steps(4);
@@ -192,24 +187,23 @@ impl Mind {
     #[inline(always)]
     fn take_agreement<C, M: Memory<C>>(
         &mut self,
-        spec: &Spec,
+        room: &Room<'_, C>,
         part: &Part,
-        context: &C,
         memory: &mut M,
     ) -> Run
-        requires wants { Wants M.serves context.now spec.now memory.old (at_line Enter self.old) Still }
-        requires part { IsPartOf spec.now self.old part.now }
-        ensures wants { Wants M.serves context.now spec.now memory.new (at_line result.line self.new) result.turn }
-        ensures continues { (count : ℕ) → Continues M.does spec.now count memory.old (at_line Enter self.old) Still (count + 4) memory.new (at_line result.line self.new) result.turn }
+        requires wants { Wants M.serves room.now.context.now room.now.spec.now memory.old (at_line Enter self.old) Still }
+        requires part { IsPartOf room.now.spec.now self.old part.now }
+        ensures wants { Wants M.serves room.now.context.now room.now.spec.now memory.new (at_line result.line self.new) result.turn }
+        ensures continues { (count : ℕ) → Continues M.does room.now.spec.now count memory.old (at_line Enter self.old) Still (count + 4) memory.new (at_line result.line self.new) result.turn }
         ensures count { result.count ≡ 4 }
     {
-        memory.operate(context, part.enter());
-        let levels = memory.operate(context, part.look());
-        let saw_two = has_level(levels, spec.m(), 2);
-        memory.operate(context, part.leave(saw_two));
-        let answer = memory.operate(context, part.look());
+        memory.operate(room.context, part.enter());
+        let levels = memory.operate(room.context, part.look());
+        let saw_two = has_level(levels, room.spec.m(), 2);
+        memory.operate(room.context, part.leave(saw_two));
+        let answer = memory.operate(room.context, part.look());
         self.count_steps(4);
-        let turn = self.ask(chosen_in(spec, answer));
+        let turn = self.ask(chosen_in(room.spec, answer));
         Run {
             count: 4,
             turn,
@@ -221,63 +215,61 @@ impl Mind {
     #[inline(always)]
     fn along_proposal<C, M: Memory<C>>(
         &mut self,
-        spec: &Spec,
+        room: &Room<'_, C>,
         most: u64,
         run: &mut Run,
-        context: &C,
         memory: &mut M,
     )
-        requires wants { Wants M.serves context.now spec.now memory.old (at_line run.old.line self.old) run.old.turn }
-        ensures wants { Wants M.serves context.now spec.now memory.new (at_line run.new.line self.new) run.new.turn }
-        ensures continues { Continues M.does spec.now run.old.count memory.old (at_line run.old.line self.old) run.old.turn run.new.count memory.new (at_line run.new.line self.new) run.new.turn }
+        requires wants { Wants M.serves room.now.context.now room.now.spec.now memory.old (at_line run.old.line self.old) run.old.turn }
+        ensures wants { Wants M.serves room.now.context.now room.now.spec.now memory.new (at_line run.new.line self.new) run.new.turn }
+        ensures continues { Continues M.does room.now.spec.now run.old.count memory.old (at_line run.old.line self.old) run.old.turn run.new.count memory.new (at_line run.new.line self.new) run.new.turn }
         ensures more { run.old.count ≤ run.new.count }
         ensures most { run.old.count ≤ most → run.new.count ≤ most }
     {
         if !matches!(run.line, Line::Snap | Line::Show | Line::Enter) {
             return;
         }
-        self.along_collects(spec, most, run, context, memory);
-        self.along_shows(spec, most, run, context, memory);
-        self.along_agreement(spec, most, run, context, memory);
+        self.along_collects(room, most, run, memory);
+        self.along_shows(room, most, run, memory);
+        self.along_agreement(room, most, run, memory);
     }
 
     /// Takes whole collects, as long as a step is left for each memory word, until the scan ends.
     #[inline(always)]
     fn along_collects<C, M: Memory<C>>(
         &mut self,
-        spec: &Spec,
+        room: &Room<'_, C>,
         most: u64,
         run: &mut Run,
-        context: &C,
         memory: &mut M,
     )
-        requires wants { Wants M.serves context.now spec.now memory.old (at_line run.old.line self.old) run.old.turn }
-        ensures wants { Wants M.serves context.now spec.now memory.new (at_line run.new.line self.new) run.new.turn }
-        ensures continues { Continues M.does spec.now run.old.count memory.old (at_line run.old.line self.old) run.old.turn run.new.count memory.new (at_line run.new.line self.new) run.new.turn }
+        requires wants { Wants M.serves room.now.context.now room.now.spec.now memory.old (at_line run.old.line self.old) run.old.turn }
+        ensures wants { Wants M.serves room.now.context.now room.now.spec.now memory.new (at_line run.new.line self.new) run.new.turn }
+        ensures continues { Continues M.does room.now.spec.now run.old.count memory.old (at_line run.old.line self.old) run.old.turn run.new.count memory.new (at_line run.new.line self.new) run.new.turn }
         ensures more { run.old.count ≤ run.new.count }
         ensures most { run.old.count ≤ most → run.new.count ≤ most }
     {
-        let words = spec.shape().memory_words() as u64;
+        let words = room.spec.shape().memory_words() as u64;
         while run.is_at(Line::Snap, words, most) && self.word() == 0 {
-            let row = self.take_collect(spec, context, memory);
+            let row = self.take_collect(room, memory);
             run.add(&row);
         }
     }
 
     /// Takes the steps of one collect, which loads each memory word.
     #[inline(always)]
-    fn take_collect<C, M: Memory<C>>(&mut self, spec: &Spec, context: &C, memory: &mut M) -> Run
-        requires wants { Wants M.serves context.now spec.now memory.old (at_line Snap self.old) Still }
+    fn take_collect<C, M: Memory<C>>(&mut self, room: &Room<'_, C>, memory: &mut M) -> Run
+        requires wants { Wants M.serves room.now.context.now room.now.spec.now memory.old (at_line Snap self.old) Still }
         requires word { self.old.word ≡ 0 }
-        ensures wants { Wants M.serves context.now spec.now memory.new (at_line result.line self.new) result.turn }
-        ensures continues { (count : ℕ) → Continues M.does spec.now count memory.old (at_line Snap self.old) Still (count + result.count) memory.new (at_line result.line self.new) result.turn }
-        ensures count { result.count ≡ words_in spec.now }
+        ensures wants { Wants M.serves room.now.context.now room.now.spec.now memory.new (at_line result.line self.new) result.turn }
+        ensures continues { (count : ℕ) → Continues M.does room.now.spec.now count memory.old (at_line Snap self.old) Still (count + result.count) memory.new (at_line result.line self.new) result.turn }
+        ensures count { result.count ≡ words_in room.now.spec.now }
     {
-        let part = self.part(spec);
+        let part = self.part(room.spec);
         let words = part.shape.memory_words();
         let mut word = 0;
         loop {
-            let content = memory.operate(context, part.snap(word));
+            let content = memory.operate(room.context, part.snap(word));
             self.put_word(word, content);
             word += 1;
             if word == words {
@@ -285,7 +277,7 @@ impl Mind {
             }
         }
         self.count_steps(words as u64);
-        let turn = self.scan(spec);
+        let turn = self.scan(room.spec);
         Run {
             count: words as u64,
             turn,
@@ -297,39 +289,38 @@ impl Mind {
     #[inline(always)]
     fn along_shows<C, M: Memory<C>>(
         &mut self,
-        spec: &Spec,
+        room: &Room<'_, C>,
         most: u64,
         run: &mut Run,
-        context: &C,
         memory: &mut M,
     )
-        requires wants { Wants M.serves context.now spec.now memory.old (at_line run.old.line self.old) run.old.turn }
-        ensures wants { Wants M.serves context.now spec.now memory.new (at_line run.new.line self.new) run.new.turn }
-        ensures continues { Continues M.does spec.now run.old.count memory.old (at_line run.old.line self.old) run.old.turn run.new.count memory.new (at_line run.new.line self.new) run.new.turn }
+        requires wants { Wants M.serves room.now.context.now room.now.spec.now memory.old (at_line run.old.line self.old) run.old.turn }
+        ensures wants { Wants M.serves room.now.context.now room.now.spec.now memory.new (at_line run.new.line self.new) run.new.turn }
+        ensures continues { Continues M.does room.now.spec.now run.old.count memory.old (at_line run.old.line self.old) run.old.turn run.new.count memory.new (at_line run.new.line self.new) run.new.turn }
         ensures more { run.old.count ≤ run.new.count }
         ensures most { run.old.count ≤ most → run.new.count ≤ most }
     {
-        let words = spec.shape().memory_words() as u64;
+        let words = room.spec.shape().memory_words() as u64;
         if run.is_at(Line::Show, words, most) && self.word() == 0 {
-            let row = self.take_shows(spec, context, memory);
+            let row = self.take_shows(room, memory);
             run.add(&row);
         }
     }
 
     /// Takes the steps that store its proposal, one for each of its words.
     #[inline(always)]
-    fn take_shows<C, M: Memory<C>>(&mut self, spec: &Spec, context: &C, memory: &mut M) -> Run
-        requires wants { Wants M.serves context.now spec.now memory.old (at_line Show self.old) Still }
+    fn take_shows<C, M: Memory<C>>(&mut self, room: &Room<'_, C>, memory: &mut M) -> Run
+        requires wants { Wants M.serves room.now.context.now room.now.spec.now memory.old (at_line Show self.old) Still }
         requires word { self.old.word ≡ 0 }
-        ensures wants { Wants M.serves context.now spec.now memory.new (at_line result.line self.new) result.turn }
-        ensures continues { (count : ℕ) → Continues M.does spec.now count memory.old (at_line Show self.old) Still (count + result.count) memory.new (at_line result.line self.new) result.turn }
-        ensures count { result.count ≡ words_in spec.now }
+        ensures wants { Wants M.serves room.now.context.now room.now.spec.now memory.new (at_line result.line self.new) result.turn }
+        ensures continues { (count : ℕ) → Continues M.does room.now.spec.now count memory.old (at_line Show self.old) Still (count + result.count) memory.new (at_line result.line self.new) result.turn }
+        ensures count { result.count ≡ words_in room.now.spec.now }
     {
-        let part = self.part(spec);
+        let part = self.part(room.spec);
         let words = part.shape.memory_words();
         let mut word = 0;
         loop {
-            memory.operate(context, part.show(word, self.snapshot.word(word)));
+            memory.operate(room.context, part.show(word, self.snapshot.word(word)));
             word += 1;
             if word == words {
                 break;
@@ -347,48 +338,41 @@ impl Mind {
     #[inline(always)]
     fn along_view<C, M: Memory<C>>(
         &mut self,
-        spec: &Spec,
+        room: &Room<'_, C>,
         most: u64,
         run: &mut Run,
-        context: &C,
         memory: &mut M,
     )
-        requires wants { Wants M.serves context.now spec.now memory.old (at_line run.old.line self.old) run.old.turn }
-        ensures wants { Wants M.serves context.now spec.now memory.new (at_line run.new.line self.new) run.new.turn }
-        ensures continues { Continues M.does spec.now run.old.count memory.old (at_line run.old.line self.old) run.old.turn run.new.count memory.new (at_line run.new.line self.new) run.new.turn }
+        requires wants { Wants M.serves room.now.context.now room.now.spec.now memory.old (at_line run.old.line self.old) run.old.turn }
+        ensures wants { Wants M.serves room.now.context.now room.now.spec.now memory.new (at_line run.new.line self.new) run.new.turn }
+        ensures continues { Continues M.does room.now.spec.now run.old.count memory.old (at_line run.old.line self.old) run.old.turn run.new.count memory.new (at_line run.new.line self.new) run.new.turn }
         ensures more { run.old.count ≤ run.new.count }
         ensures most { run.old.count ≤ most → run.new.count ≤ most }
     {
-        let words = spec.shape().memory_words() as u64;
+        let words = room.spec.shape().memory_words() as u64;
         let Line::GetView { chosen } = run.line else {
             return;
         };
         if run.is_at(Line::GetView { chosen }, words, most) && self.word() == 0 {
-            let row = self.take_view(spec, chosen, context, memory);
+            let row = self.take_view(room, chosen, memory);
             run.add(&row);
         }
     }
 
     /// Takes the steps that load the chosen proposal, one for each of its words.
     #[inline(always)]
-    fn take_view<C, M: Memory<C>>(
-        &mut self,
-        spec: &Spec,
-        chosen: u16,
-        context: &C,
-        memory: &mut M,
-    ) -> Run
-        requires wants { Wants M.serves context.now spec.now memory.old (at_line (GetView chosen) self.old) Still }
+    fn take_view<C, M: Memory<C>>(&mut self, room: &Room<'_, C>, chosen: u16, memory: &mut M) -> Run
+        requires wants { Wants M.serves room.now.context.now room.now.spec.now memory.old (at_line (GetView chosen) self.old) Still }
         requires word { self.old.word ≡ 0 }
-        ensures wants { Wants M.serves context.now spec.now memory.new (at_line result.line self.new) result.turn }
-        ensures continues { (count : ℕ) → Continues M.does spec.now count memory.old (at_line (GetView chosen) self.old) Still (count + result.count) memory.new (at_line result.line self.new) result.turn }
-        ensures count { result.count ≡ words_in spec.now }
+        ensures wants { Wants M.serves room.now.context.now room.now.spec.now memory.new (at_line result.line self.new) result.turn }
+        ensures continues { (count : ℕ) → Continues M.does room.now.spec.now count memory.old (at_line (GetView chosen) self.old) Still (count + result.count) memory.new (at_line result.line self.new) result.turn }
+        ensures count { result.count ≡ words_in room.now.spec.now }
     {
-        let part = self.part(spec);
+        let part = self.part(room.spec);
         let words = part.shape.memory_words();
         let mut word = 0;
         loop {
-            let content = memory.operate(context, part.get_view(usize::from(chosen), word));
+            let content = memory.operate(room.context, part.get_view(usize::from(chosen), word));
             self.put_word(word, content);
             word += 1;
             if word == words {
@@ -396,7 +380,7 @@ impl Mind {
             }
         }
         self.count_steps(words as u64);
-        let turn = self.open_view(spec);
+        let turn = self.open_view(room.spec);
         Run {
             count: words as u64,
             turn,
@@ -408,23 +392,22 @@ impl Mind {
     #[inline(always)]
     fn along_agreement<C, M: Memory<C>>(
         &mut self,
-        spec: &Spec,
+        room: &Room<'_, C>,
         most: u64,
         run: &mut Run,
-        context: &C,
         memory: &mut M,
     )
-        requires wants { Wants M.serves context.now spec.now memory.old (at_line run.old.line self.old) run.old.turn }
-        ensures wants { Wants M.serves context.now spec.now memory.new (at_line run.new.line self.new) run.new.turn }
-        ensures continues { Continues M.does spec.now run.old.count memory.old (at_line run.old.line self.old) run.old.turn run.new.count memory.new (at_line run.new.line self.new) run.new.turn }
+        requires wants { Wants M.serves room.now.context.now room.now.spec.now memory.old (at_line run.old.line self.old) run.old.turn }
+        ensures wants { Wants M.serves room.now.context.now room.now.spec.now memory.new (at_line run.new.line self.new) run.new.turn }
+        ensures continues { Continues M.does room.now.spec.now run.old.count memory.old (at_line run.old.line self.old) run.old.turn run.new.count memory.new (at_line run.new.line self.new) run.new.turn }
         ensures more { run.old.count ≤ run.new.count }
         ensures most { run.old.count ≤ most → run.new.count ≤ most }
     {
         if !run.is_at(Line::Enter, 4, most) {
             return;
         }
-        let part = self.part(spec);
-        let row = self.take_agreement(spec, &part, context, memory);
+        let part = self.part(room.spec);
+        let row = self.take_agreement(room, &part, memory);
         run.add(&row);
     }
 
@@ -432,52 +415,45 @@ impl Mind {
     #[inline(always)]
     fn along_values<C, M: Memory<C>>(
         &mut self,
-        spec: &Spec,
+        room: &Room<'_, C>,
         most: u64,
         run: &mut Run,
-        context: &C,
         memory: &mut M,
     )
-        requires wants { Wants M.serves context.now spec.now memory.old (at_line run.old.line self.old) run.old.turn }
-        ensures wants { Wants M.serves context.now spec.now memory.new (at_line run.new.line self.new) run.new.turn }
-        ensures continues { Continues M.does spec.now run.old.count memory.old (at_line run.old.line self.old) run.old.turn run.new.count memory.new (at_line run.new.line self.new) run.new.turn }
+        requires wants { Wants M.serves room.now.context.now room.now.spec.now memory.old (at_line run.old.line self.old) run.old.turn }
+        ensures wants { Wants M.serves room.now.context.now room.now.spec.now memory.new (at_line run.new.line self.new) run.new.turn }
+        ensures continues { Continues M.does room.now.spec.now run.old.count memory.old (at_line run.old.line self.old) run.old.turn run.new.count memory.new (at_line run.new.line self.new) run.new.turn }
         ensures more { run.old.count ≤ run.new.count }
         ensures most { run.old.count ≤ most → run.new.count ≤ most }
     {
         if !run.is_at(Line::Values, 1, most) {
             return;
         }
-        let row = self.take_values(spec, most - run.count, context, memory);
+        let row = self.take_values(room, most - run.count, memory);
         run.add(&row);
     }
 
     /// Takes up to `most` steps at the line of values, one at least. What they all ask of the room and of the snapshot
     /// is looked up once, and they are counted once.
     #[inline(always)]
-    fn take_values<C, M: Memory<C>>(
-        &mut self,
-        spec: &Spec,
-        most: u64,
-        context: &C,
-        memory: &mut M,
-    ) -> Run
-        requires wants { Wants M.serves context.now spec.now memory.old (at_line Values self.old) Still }
+    fn take_values<C, M: Memory<C>>(&mut self, room: &Room<'_, C>, most: u64, memory: &mut M) -> Run
+        requires wants { Wants M.serves room.now.context.now room.now.spec.now memory.old (at_line Values self.old) Still }
         requires most { 0 < most }
-        ensures wants { Wants M.serves context.now spec.now memory.new (at_line result.line self.new) result.turn }
-        ensures continues { (count : ℕ) → Continues M.does spec.now count memory.old (at_line Values self.old) Still (count + result.count) memory.new (at_line result.line self.new) result.turn }
+        ensures wants { Wants M.serves room.now.context.now room.now.spec.now memory.new (at_line result.line self.new) result.turn }
+        ensures continues { (count : ℕ) → Continues M.does room.now.spec.now count memory.old (at_line Values self.old) Still (count + result.count) memory.new (at_line result.line self.new) result.turn }
         ensures count { result.count ≤ most }
     {
-        let shape = spec.shape();
-        let last = self.snapshot.last_writes(spec);
+        let shape = room.spec.shape();
+        let last = self.snapshot.last_writes(room.spec);
         let mut count = 0;
         while count < most {
-            let load = self.value_move_by(spec, &shape, &last);
-            let value = memory.operate(context, load);
+            let load = self.value_move_by(room.spec, &shape, &last);
+            let value = memory.operate(room.context, load);
             self.add_value(&shape, &last, value);
             count += 1;
             if self.entries.len() >= shape.n {
                 self.count_steps(count);
-                let turn = self.conclude(spec);
+                let turn = self.conclude(room.spec);
                 return Run {
                     count,
                     turn,
@@ -497,15 +473,14 @@ impl Mind {
     #[inline(always)]
     fn along_out<C, M: Memory<C>>(
         &mut self,
-        spec: &Spec,
+        room: &Room<'_, C>,
         most: u64,
         run: &mut Run,
-        context: &C,
         memory: &mut M,
     )
-        requires wants { Wants M.serves context.now spec.now memory.old (at_line run.old.line self.old) run.old.turn }
-        ensures wants { Wants M.serves context.now spec.now memory.new (at_line run.new.line self.new) run.new.turn }
-        ensures continues { Continues M.does spec.now run.old.count memory.old (at_line run.old.line self.old) run.old.turn run.new.count memory.new (at_line run.new.line self.new) run.new.turn }
+        requires wants { Wants M.serves room.now.context.now room.now.spec.now memory.old (at_line run.old.line self.old) run.old.turn }
+        ensures wants { Wants M.serves room.now.context.now room.now.spec.now memory.new (at_line run.new.line self.new) run.new.turn }
+        ensures continues { Continues M.does room.now.spec.now run.old.count memory.old (at_line run.old.line self.old) run.old.turn run.new.count memory.new (at_line run.new.line self.new) run.new.turn }
         ensures more { run.old.count ≤ run.new.count }
         ensures most { run.old.count ≤ most → run.new.count ≤ most }
     {
@@ -515,7 +490,7 @@ impl Mind {
         if !run.is_at(Line::Out { decision }, 1, most) {
             return;
         }
-        let row = self.take_out(spec, decision, context, memory);
+        let row = self.take_out(room, decision, memory);
         run.add(&row);
     }
 
@@ -523,18 +498,17 @@ impl Mind {
     #[inline(always)]
     fn take_out<C, M: Memory<C>>(
         &mut self,
-        spec: &Spec,
+        room: &Room<'_, C>,
         decision: u32,
-        context: &C,
         memory: &mut M,
     ) -> Run
-        requires wants { Wants M.serves context.now spec.now memory.old (at_line (Out decision) self.old) Still }
-        ensures wants { Wants M.serves context.now spec.now memory.new (at_line result.line self.new) result.turn }
-        ensures continues { (count : ℕ) → Continues M.does spec.now count memory.old (at_line (Out decision) self.old) Still (count + 1) memory.new (at_line result.line self.new) result.turn }
+        requires wants { Wants M.serves room.now.context.now room.now.spec.now memory.old (at_line (Out decision) self.old) Still }
+        ensures wants { Wants M.serves room.now.context.now room.now.spec.now memory.new (at_line result.line self.new) result.turn }
+        ensures continues { (count : ℕ) → Continues M.does room.now.spec.now count memory.old (at_line (Out decision) self.old) Still (count + 1) memory.new (at_line result.line self.new) result.turn }
         ensures count { result.count ≡ 1 }
     {
-        let store = self.out_move(spec, decision);
-        memory.operate(context, store);
+        let store = self.out_move(room.spec, decision);
+        memory.operate(room.context, store);
         self.count_step();
         let turn = self.decide(decision);
         Run {

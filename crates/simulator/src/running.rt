@@ -11,7 +11,7 @@ ghost use Rattle.simulator.specs.Turns.{begun, counted};
 
 use crate::goal::Goal;
 use crate::line::Line;
-use crate::memory::{Memory, Told};
+use crate::memory::{Memory, Room, Told};
 use crate::mind::Mind;
 use crate::next::first_move_at;
 use crate::rows::Run;
@@ -54,17 +54,18 @@ impl Mind {
         ensures serves { M.serves memory.new context.now spec.now self.new }
         ensures goes_on { result.1 ≡ Still → IsOperation (move_of spec.now self.new) }
     {
+        let room = Room { spec, context };
         let mut run = Run {
             count: 0,
             turn: Turn::Still,
             line: self.current_line(), // The mind's own is an earlier one until the end.
         };
         loop {
-            self.in_a_row(spec, most, &mut run, context, memory);
+            self.in_a_row(&room, most, &mut run, memory);
             if !run.goes_on(most) {
                 break;
             }
-            self.step(spec, &mut run, context, memory);
+            self.step(&room, &mut run, memory);
         }
         self.stand_at(run.line);
         (run.count, run.turn)
@@ -74,19 +75,18 @@ impl Mind {
     #[inline(always)]
     pub(crate) fn step<C, M: Memory<C>>(
         &mut self,
-        spec: &Spec,
+        room: &Room<'_, C>,
         run: &mut Run,
-        context: &C,
         memory: &mut M,
     )
-        requires wants { Wants M.serves context.now spec.now memory.old (at_line run.old.line self.old) run.old.turn }
+        requires wants { Wants M.serves room.now.context.now room.now.spec.now memory.old (at_line run.old.line self.old) run.old.turn }
         requires still { run.old.turn ≡ Still }
-        requires room { run.old.count < u64.MAX }
-        ensures wants { Wants M.serves context.now spec.now memory.new (at_line run.new.line self.new) run.new.turn }
-        ensures continues { Continues M.does spec.now run.old.count memory.old (at_line run.old.line self.old) run.old.turn run.new.count memory.new (at_line run.new.line self.new) run.new.turn }
+        requires left { run.old.count < u64.MAX }
+        ensures wants { Wants M.serves room.now.context.now room.now.spec.now memory.new (at_line run.new.line self.new) run.new.turn }
+        ensures continues { Continues M.does room.now.spec.now run.old.count memory.old (at_line run.old.line self.old) run.old.turn run.new.count memory.new (at_line run.new.line self.new) run.new.turn }
         ensures count { run.new.count ≡ run.old.count + 1 }
     {
-        let taken = self.take_step(spec, run.line, context, memory);
+        let taken = self.take_step(room, run.line, memory);
         run.count += 1;
         run.turn = taken.turn;
         run.line = taken.line;
@@ -109,7 +109,8 @@ impl Mind {
         ensures ended { result ≢ Still → self.new.turn_steps ≡ 0 }
     {
         let line = self.current_line();
-        let taken = self.take_step(spec, line, &(), &mut Told { answer });
+        let room = Room { spec, context: &() };
+        let taken = self.take_step(&room, line, &mut Told { answer });
         self.stand_at(taken.line);
         taken.turn
     }
@@ -133,65 +134,64 @@ impl Mind {
     #[inline(always)]
     fn take_step<C, M: Memory<C>>(
         &mut self,
-        spec: &Spec,
+        room: &Room<'_, C>,
         line: Line,
-        context: &C,
         memory: &mut M,
     ) -> Taken
-        requires is_mind { IsMind spec.now (at_line line self.old) }
-        requires operation { IsOperation (move_at line spec.now self.old) }
-        requires serves { M.serves memory.old context.now spec.now (at_line line self.old) }
-        ensures does { M.does memory.old (move_at line spec.now self.old) result.answer memory.new }
-        ensures mind { at_line result.line self.new ≡ (taken_at line spec.now (counted self.old) result.answer).mind }
-        ensures turn { result.turn ≡ (taken_at line spec.now (counted self.old) result.answer).turn }
+        requires is_mind { IsMind room.now.spec.now (at_line line self.old) }
+        requires operation { IsOperation (move_at line room.now.spec.now self.old) }
+        requires serves { M.serves memory.old room.now.context.now room.now.spec.now (at_line line self.old) }
+        ensures does { M.does memory.old (move_at line room.now.spec.now self.old) result.answer memory.new }
+        ensures mind { at_line result.line self.new ≡ (taken_at line room.now.spec.now (counted self.old) result.answer).mind }
+        ensures turn { result.turn ≡ (taken_at line room.now.spec.now (counted self.old) result.answer).turn }
     {
         match line {
-            Line::Rest => self.begin(spec, context, memory),
+            Line::Rest => self.begin(room, memory),
             Line::Raise => {
-                let answer = self.asked_of(spec, line, context, memory);
+                let answer = self.asked_of(room, line, memory);
                 goes_on(answer, Line::Snap)
             }
             Line::Snap => {
-                let answer = self.asked_of(spec, line, context, memory);
-                let turn = self.snap(spec, answer);
+                let answer = self.asked_of(room, line, memory);
+                let turn = self.snap(room.spec, answer);
                 self.stands(answer, turn)
             }
             Line::Show => {
-                let answer = self.asked_of(spec, line, context, memory);
-                let turn = self.show(spec);
+                let answer = self.asked_of(room, line, memory);
+                let turn = self.show(room.spec);
                 self.stands(answer, turn)
             }
             Line::Enter => {
-                let answer = self.asked_of(spec, line, context, memory);
+                let answer = self.asked_of(room, line, memory);
                 goes_on(answer, Line::Look)
             }
             Line::Look => {
-                let answer = self.asked_of(spec, line, context, memory);
-                let saw_two = has_level(answer, spec.m(), 2);
+                let answer = self.asked_of(room, line, memory);
+                let saw_two = has_level(answer, room.spec.m(), 2);
                 goes_on(answer, Line::Leave { saw_two })
             }
             Line::Leave { .. } => {
-                let answer = self.asked_of(spec, line, context, memory);
+                let answer = self.asked_of(room, line, memory);
                 goes_on(answer, Line::Ask)
             }
             Line::Ask => {
-                let answer = self.asked_of(spec, line, context, memory);
-                let turn = self.ask(chosen_in(spec, answer));
+                let answer = self.asked_of(room, line, memory);
+                let turn = self.ask(chosen_in(room.spec, answer));
                 self.stands(answer, turn)
             }
             Line::GetView { chosen } => {
-                let answer = self.asked_of(spec, line, context, memory);
-                let turn = self.get_view(spec, chosen, answer);
+                let answer = self.asked_of(room, line, memory);
+                let turn = self.get_view(room.spec, chosen, answer);
                 self.stands(answer, turn)
             }
             Line::Values => {
-                let answer = self.asked_of(spec, line, context, memory);
-                let last = self.snapshot.last_writes(spec);
-                let turn = self.get_value(spec, &last, answer);
+                let answer = self.asked_of(room, line, memory);
+                let last = self.snapshot.last_writes(room.spec);
+                let turn = self.get_value(room.spec, &last, answer);
                 self.stands(answer, turn)
             }
             Line::Out { decision } => {
-                let answer = self.asked_of(spec, line, context, memory);
+                let answer = self.asked_of(room, line, memory);
                 let turn = self.decide(decision);
                 self.stands(answer, turn)
             }
@@ -200,13 +200,13 @@ impl Mind {
 
     /// Begins the next turn, with its first step: one search finds the process for both.
     #[inline(always)]
-    fn begin<C, M: Memory<C>>(&mut self, spec: &Spec, context: &C, memory: &mut M) -> Taken
-        requires is_mind { IsMind spec.now (at_line Rest self.old) }
-        requires operation { IsOperation (move_at Rest spec.now self.old) }
-        requires serves { M.serves memory.old context.now spec.now (at_line Rest self.old) }
-        ensures does { M.does memory.old (move_at Rest spec.now self.old) result.answer memory.new }
-        ensures mind { at_line result.line self.new ≡ (taken_at Rest spec.now (counted self.old) result.answer).mind }
-        ensures turn { result.turn ≡ (taken_at Rest spec.now (counted self.old) result.answer).turn }
+    fn begin<C, M: Memory<C>>(&mut self, room: &Room<'_, C>, memory: &mut M) -> Taken
+        requires is_mind { IsMind room.now.spec.now (at_line Rest self.old) }
+        requires operation { IsOperation (move_at Rest room.now.spec.now self.old) }
+        requires serves { M.serves memory.old room.now.context.now room.now.spec.now (at_line Rest self.old) }
+        ensures does { M.does memory.old (move_at Rest room.now.spec.now self.old) result.answer memory.new }
+        ensures mind { at_line result.line self.new ≡ (taken_at Rest room.now.spec.now (counted self.old) result.answer).mind }
+        ensures turn { result.turn ≡ (taken_at Rest room.now.spec.now (counted self.old) result.answer).turn }
     {
         let Some(process) = self.next_process() else {
             return goes_on(0, Line::Rest);
@@ -214,13 +214,13 @@ impl Mind {
         match self.goal(process) {
             Goal::Write { round, value } => {
                 let goal = Goal::Write { round, value };
-                let answer = self.first_of(spec, process, goal, context, memory);
+                let answer = self.first_of(room, process, goal, memory);
                 goes_on(answer, Line::Raise)
             }
             Goal::Ask { round } => {
                 let goal = Goal::Ask { round };
-                let answer = self.first_of(spec, process, goal, context, memory);
-                let turn = self.ask(chosen_in(spec, answer));
+                let answer = self.first_of(room, process, goal, memory);
+                let turn = self.ask(chosen_in(room.spec, answer));
                 self.stands(answer, turn)
             }
             Goal::Done | Goal::Spent => goes_on(0, Line::Rest),
@@ -231,44 +231,37 @@ impl Mind {
     #[inline(always)]
     fn first_of<C, M: Memory<C>>(
         &mut self,
-        spec: &Spec,
+        room: &Room<'_, C>,
         process: usize,
         goal: Goal,
-        context: &C,
         memory: &mut M,
     ) -> u64
-        requires is_mind { IsMind spec.now (at_line Rest self.old) }
-        requires operation { IsOperation (move_at Rest spec.now self.old) }
-        requires serves { M.serves memory.old context.now spec.now (at_line Rest self.old) }
+        requires is_mind { IsMind room.now.spec.now (at_line Rest self.old) }
+        requires operation { IsOperation (move_at Rest room.now.spec.now self.old) }
+        requires serves { M.serves memory.old room.now.context.now room.now.spec.now (at_line Rest self.old) }
         requires process { next_process self.old.goals self.old.process ≡ Some process }
         requires goal { goal_at self.old.goals process ≡ goal }
-        ensures does { M.does memory.old (move_at Rest spec.now self.old) result memory.new }
+        ensures does { M.does memory.old (move_at Rest room.now.spec.now self.old) result memory.new }
         ensures mind { self.new ≡ begun process (counted self.old) }
     {
-        let first = first_move_at(spec, self.number(), process, goal);
+        let first = first_move_at(room.spec, self.number(), process, goal);
         self.count_step();
         self.begin_on(process);
-        memory.operate(context, first)
+        memory.operate(room.context, first)
     }
 
     /// Lets the memory do the operation of this line, counts it, and answers it.
     #[inline(always)]
-    fn asked_of<C, M: Memory<C>>(
-        &mut self,
-        spec: &Spec,
-        line: Line,
-        context: &C,
-        memory: &mut M,
-    ) -> u64
-        requires is_mind { IsMind spec.now (at_line line self.old) }
-        requires operation { IsOperation (move_at line spec.now self.old) }
-        requires serves { M.serves memory.old context.now spec.now (at_line line self.old) }
-        ensures does { M.does memory.old (move_at line spec.now self.old) result memory.new }
+    fn asked_of<C, M: Memory<C>>(&mut self, room: &Room<'_, C>, line: Line, memory: &mut M) -> u64
+        requires is_mind { IsMind room.now.spec.now (at_line line self.old) }
+        requires operation { IsOperation (move_at line room.now.spec.now self.old) }
+        requires serves { M.serves memory.old room.now.context.now room.now.spec.now (at_line line self.old) }
+        ensures does { M.does memory.old (move_at line room.now.spec.now self.old) result memory.new }
         ensures mind { self.new ≡ counted self.old }
     {
-        let next = self.move_at(spec, line);
+        let next = self.move_at(room.spec, line);
         self.count_step();
-        memory.operate(context, next)
+        memory.operate(room.context, next)
     }
 
     /// At the line that the mind has itself.

@@ -40,8 +40,15 @@ impl Snapshot {
     pub(crate) fn nothing() -> Snapshot
         ensures { result ≡ no_words }
     {
+        Snapshot::of([0; MAX_MEMORY_WORDS])
+    }
+
+    /// Of these words, of which nothing is noted.
+    pub(crate) fn of(words: [u64; MAX_MEMORY_WORDS]) -> Snapshot
+        ensures { result ≡ words }
+    {
         Snapshot {
-            words: [0; MAX_MEMORY_WORDS],
+            words,
             n: 0,
             m: 0,
             rounds: 0,

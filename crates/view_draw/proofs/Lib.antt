@@ -1,11 +1,10 @@
 mod Changing
-mod Closing
+mod Commands
 mod Entering
 mod Finishing
 mod Holding
 mod Indexing
 mod Lives
-mod Performing
 mod Places
 mod Seeing
 mod Showing

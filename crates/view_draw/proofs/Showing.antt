@@ -26,10 +26,12 @@ use Rattle.service_core.specs.declared.reply.Refusal.{Refusal}
 use Rattle.service_core.specs.declared.reply.Refusal.TheVariants as refusals
 use Rattle.service_core.specs.Replies.{OpenRoom, name_in, reply_in, reply_to}
 use Rattle.service_core.specs.Rooms.{Applies, Entries, IsRefusal, IsStateOf, core_after, room_at, room_stepped, steps_of}
+use Rattle.script_play.proofs.CallerLemmas.{holds_along}
+use Rattle.script_play.specs.Following.{AreFollowed, Leaves}
 use Rattle.script_play.specs.Play.{Done, Faulty, Replied, Unread, refusal_in}
 use Rattle.simulator_lanes.specs.Panels.{Panel}
 use Rattle.run_columns.specs.declared.mark.Mark.{Mark}
-use Rattle.view_draw.specs.Drawn.{AreFinished, DrawsClosing, DrawsCommand, DrawsDone, DrawsOpening, DrawsSteps, DrawsStepsUnless, HasDrawn, crash_marks, finished, fresh, is_of, more, noted, nothing}
+use Rattle.view_draw.specs.Drawn.{AreFinished, DrawsClosing, DrawsCommand, DrawsOpening, DrawsSteps, DrawsStepsUnless, IsDrawnBy, crash_marks, finished, fresh, is_of, noted}
 use Rattle.view_draw.specs.Held.{ShowsHeld}
 use Rattle.view_draw.specs.Seen.{AreMarks}
 use Rattle.view_draw.proofs.Holding.{IsPanelOf, Leads, OneOf, Stands, all_left, all_noted, all_pushed, fields_behind, holds_shown, its_panel, none_closed, noted_aside, noted_leads, one_first, open_shows, others_left, own_name, shown_at_end, stands_pushed}
@@ -315,16 +317,13 @@ command_follows rooms after panels panels_after (commands.Crash name sim) reply 
 command_follows rooms after panels panels_after (commands.Report name) reply applies follow draws = reported rooms after panels panels_after name reply applies follow draws
 command_follows rooms after panels panels_after (commands.Close name) reply applies follow draws = closed rooms after panels panels_after name reply applies follow draws
 
-done_follows : (rooms after : Entries) (panels panels_after : List Panel) (done : Done) → DoFollow rooms panels → DrawsDone rooms done panels after panels_after → DoFollow after panels_after
-done_follows rooms after panels panels_after (Replied command reply) follow draws = command_follows rooms after panels panels_after command reply draws.0 follow draws.1
-done_follows rooms after panels panels_after (Faulty line fault) follow draws = subst (DoFollow after) (sym draws.1) (subst (λ (r : Entries). DoFollow r panels) (sym draws.0) follow)
-done_follows rooms after panels panels_after (Unread line) follow draws = subst (DoFollow after) (sym draws.1) (subst (λ (r : Entries). DoFollow r panels) (sym draws.0) follow)
-
-all_follow : (all : List Done) (rooms : Entries) (panels : List Panel) → HasDrawn all rooms panels → DoFollow rooms panels
-all_follow all rooms panels nothing = record { stands = λ name. tt; shows = tt }
-all_follow all rooms panels (more before rooms_before panels_before done rooms_after panels_after drawn draws) =
-    done_follows rooms_before rooms_after panels_before panels_after done (all_follow before rooms_before panels_before drawn) draws
+done_follows : (rooms : Entries) (panels : List Panel) (done : Done) (after : Entries) (panels_after : List Panel) → DoFollow rooms panels → Leaves rooms done after → IsDrawnBy panels rooms done after panels_after → DoFollow after panels_after
+done_follows rooms panels (Replied command reply) after panels_after follow applies draws = command_follows rooms after panels panels_after command reply applies follow draws
+done_follows rooms panels (Faulty line fault) after panels_after follow same draws = subst (DoFollow after) (sym draws) (subst (λ (r : Entries). DoFollow r panels) (sym same) follow)
+done_follows rooms panels (Unread line) after panels_after follow same draws = subst (DoFollow after) (sym draws) (subst (λ (r : Entries). DoFollow r panels) (sym same) follow)
 
 -- each process that is held by a report is seen to be held
-pub held_shown : (all : List Done) (rooms left : Entries) (panels at_end : List Panel) → HasDrawn all rooms panels → ((name : List ℕ) → room_at left name ≡ room_at rooms name) → AreFinished left panels at_end → AllByRecursion ShowsHeld at_end
-held_shown all rooms left panels at_end drawn same are = let follow = all_follow all rooms panels drawn in shown_at_end rooms left same panels at_end follow.stands follow.shows are
+pub held_shown : (all : List Done) (rooms left : Entries) (panels at_end : List Panel) → AreFollowed IsDrawnBy [] [] all rooms panels → ((name : List ℕ) → room_at left name ≡ room_at rooms name) → AreFinished left panels at_end → AllByRecursion ShowsHeld at_end
+held_shown all rooms left panels at_end drawn same are =
+    let follow = holds_along IsDrawnBy (λ all rooms panels. DoFollow rooms panels) (λ all rooms one done after other. done_follows rooms one done after other) [] [] [] all rooms panels (record { stands = λ name. tt; shows = tt }) drawn in
+    shown_at_end rooms left same panels at_end follow.stands follow.shows are

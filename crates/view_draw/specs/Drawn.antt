@@ -13,7 +13,8 @@ use Rattle.service_core.specs.declared.reply.Reply.{Reply}
 use Rattle.service_core.specs.declared.reply.Reply.TheVariants as replies
 use Rattle.service_core.specs.declared.reply.Refusal.{Refusal}
 use Rattle.service_core.specs.Replies.{OpenRoom, name_in, reply_to}
-use Rattle.service_core.specs.Rooms.{Applies, Entries, IsReportOf, IsStateOf, room_at, steps_of}
+use Rattle.service_core.specs.Rooms.{Entries, IsReportOf, IsStateOf, room_at, steps_of}
+use Rattle.script_play.specs.Following.{AreFollowed}
 use Rattle.script_play.specs.Script.{script_says}
 use Rattle.script_play.specs.Script.{Entry as Asked}
 use Rattle.room_files.specs.declared.outcome.Outcome.{Outcome}
@@ -26,7 +27,7 @@ use Rattle.simulator_lanes.specs.declared.panel.Head.{Head}
 use Rattle.run_columns.specs.declared.mark.Mark.{Mark}
 use Rattle.run_columns.specs.declared.mark.Mark.TheVariants.{Crash}
 use Rattle.view_draw.specs.Held.{ShowsHeld}
-use Rattle.view_draw.specs.Seen.{AreMarks}
+use Rattle.view_draw.specs.Seen.{AreMarks, Kept, nothing_kept}
 
 -- ---- panels
 
@@ -68,6 +69,11 @@ abbrev pub IsReportAt : Entries → List ℕ → ReportData → Type 0
 IsReportAt rooms name report = (room : Option OpenRoom) → IsStateOf (room_at rooms name) room
     → (replies.Report report ≡ reply_to room (commands.Report name)) × IsReportOf room report
 
+-- this is the report of the room of this name, if there is one
+abbrev pub IsFinal : Entries → List ℕ → Option ReportData → Type 0
+IsFinal rooms name None = room_at rooms name ≡ None
+IsFinal rooms name (Some report) = IsReportAt rooms name report
+
 -- a room that is opened has a panel of its own, with a block that says it
 abbrev pub DrawsOpening : RoomSpec → Reply → List Panel → List Panel → Type 0
 DrawsOpening spec replies.Begun before after = (block : List ℕ) × (head : Head) × IsBlockOf spec block × IsHeadOf spec block head × IsWithinLimits spec × (after ≡ before ++ fresh head ∷ [])
@@ -107,17 +113,11 @@ DrawsCommand rooms (commands.Close name) reply before after = DrawsClosing rooms
 
 -- ---- a script
 
--- what came of an entry is drawn; refused blocks draw nothing
-abbrev pub DrawsDone : Entries → Done → List Panel → Entries → List Panel → Type 0
-DrawsDone rooms (Replied command reply) before rooms_after after = Applies rooms command reply rooms_after × DrawsCommand rooms command reply before after
-DrawsDone rooms (Faulty line fault) before rooms_after after = (rooms_after ≡ rooms) × (after ≡ before)
-DrawsDone rooms (Unread line) before rooms_after after = (rooms_after ≡ rooms) × (after ≡ before)
-
--- All of this was done, from the first to the last, and this leaves these rooms and these panels.
-pub data HasDrawn : List Done → Entries → List Panel → Type 0 where
-  nothing : HasDrawn [] [] []
-  more : (all : List Done) (rooms : Entries) (panels : List Panel) (done : Done) (rooms_after : Entries) (panels_after : List Panel)
-      → HasDrawn all rooms panels → DrawsDone rooms done panels rooms_after panels_after → HasDrawn (all ++ done ∷ []) rooms_after panels_after
+-- one thing more was done to these rooms, which led to those: it is drawn, and refused blocks draw nothing
+abbrev pub IsDrawnBy : List Panel → Entries → Done → Entries → List Panel → Type 0
+IsDrawnBy before rooms (Replied command reply) left after = DrawsCommand rooms command reply before after
+IsDrawnBy before rooms (Faulty line fault) left after = after ≡ before
+IsDrawnBy before rooms (Unread line) left after = after ≡ before
 
 -- a room that is still open at the end has its final report
 abbrev pub HasComeTo : Entries → List ℕ → Option ReportData → Option ReportData → Type 0
@@ -144,7 +144,7 @@ pub record IsDrawn (style : Style) (input : List ℕ) (ending : Result Outcome A
   pub each_entry : AreDone entries all
   pub rooms : Entries
   pub panels : List Panel
-  pub drawn : HasDrawn all rooms panels
+  pub drawn : AreFollowed IsDrawnBy [] [] all rooms panels
   -- the rooms that are open at the end
   pub left : Entries
   pub same_rooms : (name : List ℕ) → room_at left name ≡ room_at rooms name
@@ -173,25 +173,29 @@ Places = List (List ℕ × ℕ)
 abbrev pub AreIndexed : Places → List Panel → Type 0
 AreIndexed places panels = (name : List ℕ) → IsPlace (lookup (bytes_eq name) places) (is_of name) panels
 
--- a command was done and drawn; this says why it was refused, if it was
-pub record IsDrawnOn (rooms : Entries) (panels : List Panel) (command : Command) (refusal : Option Refusal) (rooms_after : Entries) (panels_after : List Panel) : Type 0 where
-  pub reply : Reply
-  pub applies : Applies rooms command reply rooms_after
-  pub refusal_is : refusal ≡ refusal_in reply
-  pub draws : DrawsCommand rooms command reply panels panels_after
+-- What is known before a command to these rooms: of a room that is to be opened what its panel shows above the lanes, of one that is to be
+-- closed its report; and nothing was seen yet of a command that takes steps.
+abbrev pub IsReady : Entries → Command → Option Head → Option ReportData → Option Kept → Type 0
+IsReady rooms (commands.Begin spec) head report watch = (block : List ℕ) × (known : Head) × (head ≡ Some known) × IsBlockOf spec block × IsHeadOf spec block known × IsWithinLimits spec
+IsReady rooms (commands.Step name sim count) head report watch = watch ≡ Some nothing_kept
+IsReady rooms (commands.Settle name) head report watch = watch ≡ Some nothing_kept
+IsReady rooms (commands.Close name) head report watch = IsFinal rooms name report
+IsReady rooms command head report watch = ⊤
 
--- the same of one that lets the room of its name take steps
-pub record IsSteppedOn (rooms : Entries) (panels : List Panel) (command : Command) (refusal : Option Refusal) (rooms_after : Entries) (panels_after : List Panel) : Type 0 where
-  pub reply : Reply
-  pub applies : Applies rooms command reply rooms_after
-  pub refusal_is : refusal ≡ refusal_in reply
-  pub draws : DrawsStepsUnless refusal rooms (name_in command) command panels panels_after
+-- the panels with the steps that were seen in the room of this name, if the command was not refused
+abbrev pub AreStepsNoted : Option Refusal → List ℕ → Option Kept → List Panel → List Panel → Type 0
+AreStepsNoted (Some refusal) name watch before after = after ≡ before
+AreStepsNoted None name None before after = after ≡ before
+AreStepsNoted None name (Some kept) before after = (kept.failed ≡ false) × (after ≡ noted name kept.marks before)
 
--- the room of this name was closed, and this is its final report
-pub record IsClosed (rooms : Entries) (panels : List Panel) (name : List ℕ) (report : ReportData) (rooms_after : Entries) (panels_after : List Panel) (refusal : Option Refusal) : Type 0 where
-  pub applies : Applies rooms (commands.Close name) replies.Closed rooms_after
-  pub not_refused : refusal ≡ None
-  pub draws : panels_after ≡ finished name report panels
+-- the panels once the room of this name was opened, or closed, if it was
+abbrev pub opened_with : Option Head → Reply → List Panel → List Panel
+opened_with (Some head) replies.Begun panels = panels ++ fresh head ∷ []
+opened_with head reply panels = panels
+
+abbrev pub closed_with : List ℕ → Option ReportData → Reply → List Panel → List Panel
+closed_with name (Some report) replies.Closed panels = finished name report panels
+closed_with name report reply panels = panels
 
 -- the picture of these panels, if these rooms are still open
 pub record IsPictureOf (style : Style) (rooms : Entries) (panels : List Panel) (output : List ℕ) : Type 0 where

@@ -27,6 +27,9 @@ pub record Kept : Type 0 where
   pub marks : List Mark
   pub failed : Bool
 
+abbrev pub nothing_kept : Kept
+nothing_kept = record { marks = []; failed = false }
+
 pub record IsOneMore (old : Kept) (room : RoomState) (i : ℕ) (new : Kept) : Type 0 where
   pub well : old.failed ≡ false
   pub mark : Mark

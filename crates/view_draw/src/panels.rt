@@ -3,7 +3,7 @@ ghost use Rattle.std.specs.Prelude.{◌≡◌, ◌<◌, ◌++◌, ◌∷◌, [],
 ghost use Rattle.view_draw.specs.Drawn.{IsPlace, finished, fresh, is_of, noted};
 
 use indexmap::IndexMap;
-use room_spec::Name;
+use room_spec::{Name, Spelled};
 use run_columns::Mark;
 use simulator_lanes::{Head, Panel};
 use std::alloc::{AllocError, Global};
@@ -70,7 +70,7 @@ impl Panels {
     }
 
     /// Notes what happened next in the room that is open under this name.
-    pub(crate) fn note(&mut self, name: &Name, marks: &[Mark]) -> Result<(), AllocError>
+    pub(crate) fn note(&mut self, name: &[u8], marks: &[Mark]) -> Result<(), AllocError>
         ensures noted { OnOk result (self.new ≡ noted name.now marks.now self.old) }
     {
         match self.place_of(name) {
@@ -80,12 +80,12 @@ impl Panels {
     }
 
     /// Notes the report of the room that was open under this name.
-    pub(crate) fn finish(&mut self, name: &Name, report: Report)
+    pub(crate) fn finish(&mut self, name: &[u8], report: Report)
         ensures { self.new ≡ finished name.now report self.old }
     {
         match self.place_of(name) {
             Some(place) => {
-                self.places.swap_remove(name);
+                self.places.swap_remove(Spelled { bytes: name });
                 self.panels[place].finish(report);
             }
             None => {}
@@ -93,11 +93,11 @@ impl Panels {
     }
 
     /// The place of the panel of the room that is open under this name.
-    fn place_of(&self, name: &Name) -> Option<usize>
+    fn place_of(&self, name: &[u8]) -> Option<usize>
         ensures place { IsPlace result (is_of name.now) self.now }
         ensures within { IfSome result (λ place. place < length self.now) }
     {
-        self.places.get(name).copied()
+        self.places.get(Spelled { bytes: name }).copied()
     }
 
     /// All panels.

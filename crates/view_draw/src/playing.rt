@@ -6,6 +6,7 @@ ghost use Rattle.script_play.specs.Script.{script_says};
 ghost use Rattle.view_draw.specs.Drawn.{AreFinished, IsDrawn, IsFinished, IsPictureFrom, IsPictureOf};
 
 use crate::drawing::Drawing;
+use crate::panels::Panels;
 use indexmap::IndexMap;
 use io_text::Text;
 use room_core::RoomCore;
@@ -13,6 +14,7 @@ use room_files::InputFault;
 use room_spec::Name;
 use run_picture::{Style, write_picture};
 use script_play::{PlayText, Played, play_script};
+use service_core::Service;
 use simulator_lanes::Panel;
 use std::alloc::{AllocError, Global};
 use ws_history::report;
@@ -29,17 +31,26 @@ pub fn draw(alloc: Global, style: Style, script: &[u8]) -> Result<PlayText, Inpu
     // An allocation that fails hides no malformed line.
     ensures err { IfErr result (IsFaultOr (IsOk (script_says script.now)) (script_says script.now)) }
 {
-    let Played { performer, ending } = play_script(alloc, Drawing::new(alloc), script)?;
-    let output = picture_from(alloc, style, performer)?;
+    let Played {
+        service,
+        follower,
+        ending,
+    } = play_script(alloc, Drawing::new(alloc), script)?;
+    let output = picture_from(alloc, style, service, follower.panels)?;
     Ok(PlayText { output, ending })
 }
 
 /// The picture of what was drawn, if nothing more happens in the rooms that are open.
-fn picture_from(alloc: Global, style: Style, drawing: Drawing) -> Result<Text, AllocError>
-    ensures { IfOk result (IsPictureFrom style drawing.service drawing.panels) }
+fn picture_from(
+    alloc: Global,
+    style: Style,
+    service: Service,
+    panels: Panels,
+) -> Result<Text, AllocError>
+    ensures { IfOk result (IsPictureFrom style service panels) }
 {
-    let rooms = drawing.service.into_rooms();
-    let output = picture_of(alloc, style, &rooms, drawing.panels.into_vec())?;
+    let rooms = service.into_rooms();
+    let output = picture_of(alloc, style, &rooms, panels.into_vec())?;
     Ok(output)
 }
 

@@ -1,3 +1,3 @@
 mod Claims
-mod Following
+mod Keeping
 mod Texts

@@ -1,12 +1,11 @@
 -- What is said of a script and a goal.
 use Rattle.std.specs.Prelude.{◌≡◌, ℕ, ◌+◌, ◌==◌, Bool, true, false, ◌&&◌, List, [], ◌∷◌, ◌++◌, length, Option, Some, None, Result, Ok, Err, if◌then◌else◌, codes, decimal, min, nat_le}
 use Rattle.std.specs.declared.alloc.AllocError.{AllocError}
-use Rattle.std.specs.List.{flat_map, fold, list_any}
+use Rattle.std.specs.List.{flat_map, list_any}
 use Rattle.ws_history.specs.declared.states.ProcessState.{ProcessState}
 use Rattle.ws_history.specs.declared.states.ProcessState.TheVariants as states
-use Rattle.room_core.specs.Calls.{RoomState, decisions_of}
 use Rattle.service_core.specs.Replies.{name_in}
-use Rattle.service_core.specs.Rooms.{Applies, Entries, room_at}
+use Rattle.service_core.specs.Rooms.{Entries, room_at}
 use Rattle.service_core.specs.declared.command.Command.{Command}
 use Rattle.service_core.specs.declared.command.Command.TheVariants as commands
 use Rattle.service_core.specs.declared.reply.Reply.{Reply}
@@ -14,7 +13,10 @@ use Rattle.service_core.specs.declared.reply.Reply.TheVariants.{Report}
 use Rattle.room_files.specs.Verdicts.{outcome_if}
 use Rattle.room_files.specs.declared.outcome.Outcome.{Outcome}
 use Rattle.script_play.specs.Play.{AreDone, AreReplies, Done, Faulty, Replied, Unread, commands_of, ending_of, replies_in}
+use Rattle.script_play.specs.Following.{AreFollowed, decisions_at}
 use Rattle.script_play.specs.Script.{Entry as Asked, script_says}
+use Rattle.script_play.specs.declared.following.Order.{Order}
+use Rattle.script_play.specs.declared.following.Order.TheVariants as orders
 use Rattle.view_grade.specs.Judging.{ReportedParts, decision_of, holds, satisfies, state_of}
 use Rattle.view_grade.specs.declared.goal.Fact.{Fact}
 use Rattle.view_grade.specs.declared.goal.Fact.TheVariants.{Decided, Spent, Held, Going, Crashed, SimulatorDecided, History}
@@ -24,31 +26,16 @@ use Rattle.view_grade.specs.declared.goal.GoalFault.TheVariants.{NoClaim, NoJoin
 
 -- ---- the last report, and the moves
 
--- what the simulators of a room have decided, if there is one
-abbrev pub decisions_at : Option RoomState → List (Option ℕ)
-decisions_at None = []
-decisions_at (Some room) = decisions_of room
-
 -- a report takes the place of those before it
 abbrev pub reported_in : List (Option ℕ) → Option ReportedParts → Reply → Option ReportedParts
 reported_in decisions last (Report report) = Some (record { report = report; decisions = decisions })
 reported_in decisions last reply = last
 
--- with what the simulators of its room had decided then
-abbrev pub reported_with : Entries → Option ReportedParts → Done → Option ReportedParts
-reported_with rooms last (Replied command reply) = reported_in (decisions_at (room_at rooms (name_in command))) last reply
-reported_with rooms last (Faulty line fault) = last
-reported_with rooms last (Unread line) = last
-
-abbrev pub IsDoneTo : Entries → Done → Entries → Type 0
-IsDoneTo rooms (Replied command reply) after = Applies rooms command reply after
-IsDoneTo rooms (Faulty line fault) after = after ≡ rooms
-IsDoneTo rooms (Unread line) after = after ≡ rooms
-
--- All of this was done to these rooms, of which this was the last report. It led to those rooms, and to that report.
-abbrev pub LeadsTo : Entries → Option ReportedParts → List Done → Entries → Option ReportedParts → Type 0
-LeadsTo rooms last [] after end = (rooms ≡ after) × (last ≡ end)
-LeadsTo rooms last (done ∷ rest) after end = (next : Entries) × IsDoneTo rooms done next × LeadsTo next (reported_with rooms last done) rest after end
+-- with what the simulators of its room, as it is left, have decided then
+abbrev pub reported_with : Option ReportedParts → Done → Entries → Option ReportedParts
+reported_with last (Replied command reply) left = reported_in (decisions_at (room_at left (name_in command))) last reply
+reported_with last (Faulty line fault) left = last
+reported_with last (Unread line) left = last
 
 -- a command `step` or `crash`
 abbrev pub is_move : Command → Bool
@@ -68,9 +55,17 @@ moves_with moves (Replied command reply) = moves_by moves command
 moves_with moves (Faulty line fault) = moves
 moves_with moves (Unread line) = moves
 
--- how many commands `step` and `crash` there were
-abbrev pub moves_in : List Done → ℕ
-moves_in all = fold moves_with 0 all
+-- the last report so far, and how many commands `step` and `crash` there were
+pub record Graded : Type 0 where
+  pub last : Option ReportedParts
+  pub moves : ℕ
+
+abbrev pub nothing_graded : Graded
+nothing_graded = record { last = None; moves = 0 }
+
+-- one thing more was done to these rooms, which led to those
+abbrev pub IsGradedBy : Graded → Entries → Done → Entries → Graded → Type 0
+IsGradedBy before rooms done left now = (now.last ≡ reported_with before.last done left) × (now.moves ≡ moves_with before.moves done)
 
 -- ---- the text
 
@@ -175,10 +170,10 @@ pub record IsGraded (claims : List Claim) (most : Option ℕ) (input : List ℕ)
   pub each_entry : AreDone entries all
   pub replies : AreReplies (commands_of all) (replies_in all)
   pub rooms : Entries
-  pub last : Option ReportedParts
-  pub leads : LeadsTo [] None all rooms last
-  pub output_is : output ≡ grade_text claims most last (moves_in all)
-  pub ending_is : ending ≡ graded_ending (ending_of all) (is_reached claims most last (moves_in all))
+  pub graded : Graded
+  pub followed : AreFollowed IsGradedBy [] nothing_graded all rooms graded
+  pub output_is : output ≡ grade_text claims most graded.last graded.moves
+  pub ending_is : ending ≡ graded_ending (ending_of all) (is_reached claims most graded.last graded.moves)
 
 -- ---- a goal that is not valid
 
@@ -188,7 +183,8 @@ fault_text (NoJoint number) = codes "claim " ++ (decimal number ++ codes " of th
 
 -- ---- inside the crate
 
--- the rooms and the last report to which all that was done leads, and the moves among it
-pub record HasKept (rooms : Entries) (last : Option ReportedParts) (moves : ℕ) (all : List Done) : Type 0 where
-  pub leads : LeadsTo [] None all rooms last
-  pub moves_are : moves ≡ moves_in all
+-- an order that is a command `step` or `crash`
+abbrev pub is_move_for : Order → Bool
+is_move_for (orders.Step sim count) = true
+is_move_for (orders.Crash sim) = true
+is_move_for order = false

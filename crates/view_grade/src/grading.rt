@@ -32,8 +32,12 @@ pub fn grade(
     // An allocation that fails hides no malformed line.
     ensures err { IfErr result (IsFaultOr (IsOk (script_says script.now)) (script_says script.now)) }
 {
-    let Played { performer, ending } = play_script(alloc, Grader::new(alloc), script)?;
-    let Grader { last, moves, .. } = performer;
+    let Played {
+        follower,
+        ending,
+        ..
+    } = play_script(alloc, Grader::new(), script)?;
+    let Grader { last, moves } = follower;
     let output = text_of(alloc, goal, most, &last, moves)?;
     let ending = graded_ending(ending, is_reached(goal, most, &last, moves));
     Ok(PlayText { output, ending })

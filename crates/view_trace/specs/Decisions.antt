@@ -1,14 +1,8 @@
 -- What the simulators of a room have decided, under its reports.
 use Rattle.std.specs.Prelude.{ℕ, Bool, true, false, List, [], ◌∷◌, ◌++◌, length, map, Option, Some, None, slice_index_or, codes, decimal}
 use Rattle.std.specs.List.{concat, range_with_len}
-use Rattle.room_core.specs.Calls.{RoomState, decisions_of}
 use Rattle.service_core.specs.declared.reply.Reply.{Reply}
 use Rattle.service_core.specs.declared.reply.Reply.TheVariants.{Report}
-
--- what the simulators of a room have decided, if there is one
-abbrev pub decisions_at : Option RoomState → List (Option ℕ)
-decisions_at None = []
-decisions_at (Some room) = decisions_of room
 
 -- a simulator, and what it did
 unfoldable pub simulator_words : ℕ → List ℕ → List ℕ

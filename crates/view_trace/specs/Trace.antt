@@ -1,5 +1,5 @@
 -- What is said of a script: what `play` answers, and notes under each reply.
-use Rattle.std.specs.Prelude.{◌≡◌, ℕ, ◌<◌, ◌≤◌, Bool, true, false, List, [], ◌∷◌, ◌++◌, length, map, Option, Result, Ok, Err, alloc_error, if◌then◌else◌}
+use Rattle.std.specs.Prelude.{◌≡◌, ⊤, ℕ, Bool, true, false, List, [], ◌∷◌, ◌++◌, Option, Some, None, Result, Ok, if◌then◌else◌}
 use Rattle.std.specs.declared.alloc.AllocError.{AllocError}
 use Rattle.std.specs.List.{flat_map}
 use Rattle.room_spec.specs.Faults.{sentence_of}
@@ -13,7 +13,8 @@ use Rattle.service_core.specs.declared.reply.Refusal.{Refusal as Reason}
 use Rattle.service_core.specs.declared.reply.Refusal.TheVariants.{NoRoom, NameTaken, NoSimulator, OutOfMemory}
 use Rattle.room_files.specs.declared.fault.BlockFault.TheVariants.{Spec}
 use Rattle.service_core.specs.Replies.{name_in, refusal_sentence}
-use Rattle.service_core.specs.Rooms.{Applies, Entries, room_at, steps_of}
+use Rattle.service_core.specs.Rooms.{Entries, room_at, steps_of}
+use Rattle.script_play.specs.Following.{AreFollowed, decisions_at}
 use Rattle.script_play.specs.Script.{Entry, script_says}
 use Rattle.room_files.specs.declared.outcome.Outcome.{Outcome}
 use Rattle.script_play.specs.Play.{AreDone, AreReplies, Done, Faulty, IsPlayText, Replied, Unread, commands_of, done_text, ending_of, replies_in}
@@ -23,7 +24,7 @@ use Rattle.step_words.specs.Told.{IsTold, Telling, nothing_told}
 use Rattle.fault_text.specs.Lines.{indented}
 use Rattle.fault_text.specs.Strangers.{MetNames, is_met, met, more_note, refused_strangers}
 use Rattle.fault_text.specs.declared.refusals.RefusedBlock.{RefusedBlock}
-use Rattle.view_trace.specs.Decisions.{decisions_at, decisions_shown}
+use Rattle.view_trace.specs.Decisions.{decisions_shown}
 use Rattle.view_trace.specs.Json.{done_data, reply_data}
 use Rattle.view_trace.specs.declared.missed.TheConstants.{MORE_COMMANDS}
 
@@ -88,48 +89,43 @@ abbrev pub block_shown : Bool → List ℕ → List ℕ
 block_shown false why = indented why
 block_shown true why = []
 
--- under a report: the steps of its command, of which there are none, and what each simulator of the room has decided
-abbrev pub AreReportNotes : Bool → Option RoomState → Command → List ℕ → Type 0
-AreReportNotes json room command notes = (lines : List ℕ) × AreLinesOf json (steps_of room command) lines × (notes ≡ lines ++ decisions_shown json (decisions_at room))
+-- under a report: the steps of its command, of which there are none, and what each simulator of the room, as it is left, has decided
+abbrev pub AreReportNotes : Bool → Option RoomState → Option RoomState → Command → List ℕ → Type 0
+AreReportNotes json room left command notes = (lines : List ℕ) × AreLinesOf json (steps_of room command) lines × (notes ≡ lines ++ decisions_shown json (decisions_at left))
 
 -- under a reply: why the command was refused, or the steps that it took in the room of its name as it was then
-abbrev pub AreNotesOn : Bool → MissedRooms → Option RoomState → Command → Reply → List ℕ → Type 0
-AreNotesOn json missed room command (Refused refusal) notes = notes ≡ refusal_shown json missed (name_in command) refusal
-AreNotesOn json missed room command (Report report) notes = AreReportNotes json room command notes
-AreNotesOn json missed room command reply notes = AreLinesOf json (steps_of room command) notes
+abbrev pub AreNotesOn : Bool → MissedRooms → Option RoomState → Option RoomState → Command → Reply → List ℕ → Type 0
+AreNotesOn json missed room left command (Refused refusal) notes = notes ≡ refusal_shown json missed (name_in command) refusal
+AreNotesOn json missed room left command (Report report) notes = AreReportNotes json room left command notes
+AreNotesOn json missed room left command reply notes = AreLinesOf json (steps_of room command) notes
 
--- What was done to these rooms has such notes, and leads to those.
-abbrev pub IsNoted : Bool → MissedRooms → Done → List ℕ → Entries → Entries → Type 0
-IsNoted json missed (Replied command reply) notes rooms after = Applies rooms command reply after × AreNotesOn json missed (room_at rooms (name_in command)) command reply notes
-IsNoted json missed (Faulty line fault) notes rooms after = (after ≡ rooms) × (notes ≡ block_shown json (sentence_of fault))
-IsNoted json missed (Unread line) notes rooms after = (after ≡ rooms) × (notes ≡ block_shown json (refusal_sentence OutOfMemory))
+-- What was done to these rooms, and led to those, has such notes.
+abbrev pub AreNotesFor : Bool → MissedRooms → Entries → Done → Entries → List ℕ → Type 0
+AreNotesFor json missed rooms (Replied command reply) after notes = AreNotesOn json missed (room_at rooms (name_in command)) (room_at after (name_in command)) command reply notes
+AreNotesFor json missed rooms (Faulty line fault) after notes = notes ≡ block_shown json (sentence_of fault)
+AreNotesFor json missed rooms (Unread line) after notes = notes ≡ block_shown json (refusal_sentence OutOfMemory)
 
 -- ---- a whole script
-
-pub record Noted : Type 0 where
-  pub done : Done
-  pub notes : List ℕ
 
 -- what `play` writes of what was done, or an object of JSON
 abbrev pub done_shown : Bool → Done → List ℕ
 done_shown false done = done_text done
 done_shown true done = json_line (done_data done)
 
-abbrev pub noted_text : Bool → Noted → List ℕ
-noted_text json one = done_shown json one.done ++ one.notes
+-- what is said so far, and what is known of rooms that don't exist
+pub record Traced : Type 0 where
+  pub missed : MissedRooms
+  pub output : List ℕ
 
--- each has its notes, and is done to the rooms to which all before it lead, with what is known from these
-abbrev pub AreNoted : Bool → MissedRooms → Entries → List Noted → Entries → MissedRooms → Type 0
-AreNoted json missed rooms [] after end = (rooms ≡ after) × (missed ≡ end)
-AreNoted json missed rooms (one ∷ rest) after end =
-    (next : Entries) × IsNoted json missed one.done one.notes rooms next × AreNoted json (missed_after missed one.done) next rest after end
+abbrev pub nothing_traced : Traced
+nothing_traced = record { missed = record { refused = []; strangers = record { names = []; more = 0 } }; output = [] }
 
--- this was done from no rooms on, and the output is what is said of it
-pub record HasTraced (json : Bool) (rooms : Entries) (missed : MissedRooms) (output : List ℕ) (all : List Done) : Type 0 where
-  pub noted : List Noted
-  pub each : map (λ one. one.done) noted ≡ all
-  pub output_is : output ≡ flat_map (noted_text json) noted
-  pub are_noted : AreNoted json (record { refused = []; strangers = record { names = []; more = 0 } }) [] noted rooms missed
+-- one thing more was done to these rooms, which led to those: it is said, with its notes
+pub record IsTraced (json : Bool) (before : Traced) (rooms : Entries) (done : Done) (left : Entries) (now : Traced) : Type 0 where
+  pub notes : List ℕ
+  pub are_notes : AreNotesFor json before.missed rooms done left notes
+  pub missed : now.missed ≡ missed_after before.missed done
+  pub output : now.output ≡ before.output ++ (done_shown json done ++ notes)
 
 -- what is said at the end of a script, in text
 abbrev pub end_shown : Bool → List ℕ → MissedRooms → List ℕ
@@ -143,10 +139,9 @@ pub record IsTrace (json : Bool) (script : List ℕ) (entries : List Entry) (end
   pub replies : AreReplies (commands_of all) (replies_in all)
   pub ending_is : ending ≡ ending_of all
   pub rooms : Entries
-  pub missed : MissedRooms
-  pub text : List ℕ
-  pub traced : HasTraced json rooms missed text all
-  pub output_is : output ≡ text ++ end_shown json script missed
+  pub traced : Traced
+  pub followed : AreFollowed (IsTraced json) [] nothing_traced all rooms traced
+  pub output_is : output ≡ traced.output ++ end_shown json script traced.missed
   -- this was done, and in text it is, without the notes, what `play` writes, with its ending
   pub played : IsPlayText entries ending (flat_map done_text all)
 
@@ -163,10 +158,20 @@ IsJsonTraceFor input ending output = IsTraceIn true input ending output
 
 -- ---- inside the crate
 
+-- the lines of the steps that were seen, if something saw them
+abbrev pub lines_in : Option Telling → List ℕ
+lines_in None = []
+lines_in (Some telling) = telling.lines
+
+-- no allocation failed for one
+abbrev pub IsWhole : Option Telling → Type 0
+IsWhole None = ⊤
+IsWhole (Some telling) = telling.lacks ≡ false
+
 -- what is noted under a reply by an observer of the steps
-abbrev pub notes_after : Bool → MissedRooms → List ℕ → Reply → Telling → List ℕ
+abbrev pub notes_after : Bool → MissedRooms → List ℕ → Reply → Option Telling → List ℕ
 notes_after json missed name (Refused refusal) telling = refusal_shown json missed name refusal
-notes_after json missed name reply telling = telling.lines
+notes_after json missed name reply telling = lines_in telling
 
 -- what is written of a reply
 abbrev pub answer_text : Bool → List ℕ → ℕ → Reply → List ℕ

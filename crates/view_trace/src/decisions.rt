@@ -1,34 +1,25 @@
 //! What the simulators of a room have decided, under its reports.
 ghost use Rattle.std.specs.Prelude.{◌≡◌, ◌∷◌, ◌++◌, OnOk, codes, decimal};
 ghost use Rattle.service_core.specs.Rooms.{room_at};
-ghost use Rattle.view_trace.specs.Decisions.{decision_line, decision_lines, decisions_at, decisions_shown, decisions_under, simulator_words};
+ghost use Rattle.script_play.specs.Following.{decisions_at};
+ghost use Rattle.view_trace.specs.Decisions.{decision_line, decision_lines, decisions_shown, decisions_under, simulator_words};
 
-use arrayvec::ArrayVec;
 use io_text::Text;
-use room_spec::{MAX_SIMULATORS, Name};
+use script_play::decisions_at;
 use service_core::{Reply, Service};
 use std::alloc::AllocError;
 
-/// What the simulators of the room of this name have decided, if there is one.
-pub(crate) fn decisions_at(service: &Service, name: &Name) -> ArrayVec<Option<u32>, MAX_SIMULATORS>
-    ensures { result.items ≡ decisions_at (room_at service.now name.now) }
-{
-    match service.room(name) {
-        Some(room) => room.decisions(),
-        None => ArrayVec::new(),
-    }
-}
-
-/// Writes under a report what each simulator of its room has decided, in text.
+/// Writes under a report of the room of this name what each of its simulators has decided, in text.
 pub(crate) fn write_decisions<const JSON: bool>(
     output: &mut Text,
     reply: &Reply,
-    decisions: &[Option<u32>],
+    rooms: &Service,
+    name: &[u8],
 ) -> Result<(), AllocError>
-    ensures { OnOk result (output.new ≡ output.old ++ decisions_under reply.now JSON decisions.now) }
+    ensures { OnOk result (output.new ≡ output.old ++ decisions_under reply.now JSON (decisions_at (room_at rooms.now name.now))) }
 {
     match reply {
-        Reply::Report(_) => show_decisions::<JSON>(output, decisions),
+        Reply::Report(_) => show_decisions::<JSON>(output, decisions_at(rooms, name).as_slice()),
         Reply::Begun
         | Reply::Steps { .. }
         | Reply::Crash(_)

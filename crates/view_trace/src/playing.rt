@@ -16,19 +16,22 @@ use std::alloc::Global;
 /// # Errors
 ///
 /// The script's first fault, or an allocation that failed. If that was for a block or a command, the script goes on to its end.
-#[tactic(auto, using(crate::proofs::Tracing::text_traced))]
 pub fn trace(alloc: Global, script: &[u8]) -> Result<PlayText, InputFault>
     requires { length script.now ≤ most_bytes }
     ensures text { IfOk result (λ traced. IsTraceFor script.now traced.ending traced.output) }
     // An allocation that fails hides no malformed line.
     ensures err { IfErr result (IsFaultOr (IsOk (script_says script.now)) (script_says script.now)) }
 {
-    let Played { performer, ending } = play_script(alloc, Tracer::<false>::new(alloc), script)?;
+    let Played {
+        follower,
+        ending,
+        ..
+    } = play_script(alloc, Tracer::<false>::new(alloc), script)?;
     let Tracer {
         mut output,
         missed,
         ..
-    } = performer;
+    } = follower;
     missed.write_end(&mut output, script)?;
     Ok(PlayText { output, ending })
 }
@@ -38,13 +41,16 @@ pub fn trace(alloc: Global, script: &[u8]) -> Result<PlayText, InputFault>
 /// # Errors
 ///
 /// As of [`trace`].
-#[tactic(auto, using(crate::proofs::Tracing::json_traced))]
 pub fn trace_json(alloc: Global, script: &[u8]) -> Result<PlayText, InputFault>
     requires { length script.now ≤ most_bytes }
     ensures text { IfOk result (λ traced. IsJsonTraceFor script.now traced.ending traced.output) }
     ensures err { IfErr result (IsFaultOr (IsOk (script_says script.now)) (script_says script.now)) }
 {
-    let Played { performer, ending } = play_script(alloc, Tracer::<true>::new(alloc), script)?;
-    let Tracer { output, .. } = performer;
+    let Played {
+        follower,
+        ending,
+        ..
+    } = play_script(alloc, Tracer::<true>::new(alloc), script)?;
+    let Tracer { output, .. } = follower;
     Ok(PlayText { output, ending })
 }

@@ -1,132 +1,149 @@
-//! What is said of what a service did: its replies, and under each the atomic steps that its command took, or what the simulators have decided.
-ghost use Rattle.std.specs.Prelude.{◌≡◌, ◌≢◌, ◌++◌, [], None, Some, false, true, IfOk, OnOk};
-ghost use Rattle.room_spec.specs.Names.{is_name};
-ghost use Rattle.service_core.specs.declared.command.Command.TheVariants.{Step};
-ghost use Rattle.service_core.specs.declared.reply.Refusal.TheVariants.{NoRoom};
-ghost use Rattle.script_play.specs.Play.{IsPerformed, refusal_in};
-ghost use Rattle.view_trace.specs.Trace.{HasTraced, answer_text, fault_written, lack_written, missed_by, missed_refused, notes_after, refusal_shown};
+//! What is said of a script: its replies, and under each the atomic steps that its command took, or what the simulators have decided.
+ghost use Rattle.std.specs.Prelude.{◌≡◌, ◌++◌, [], None, Option, OnOk};
+ghost use Rattle.step_words.specs.Told.{Telling};
+ghost use Rattle.script_play.specs.Play.{refusal_in};
+ghost use Rattle.view_trace.specs.Trace.{IsWhole, answer_text, fault_written, lack_written, lines_in, missed_by, missed_refused, notes_after, refusal_shown};
+ghost use Rattle.script_play.specs.Following.{sim_for};
 
-use crate::decisions::{decisions_at, write_decisions};
+use crate::decisions::write_decisions;
 use crate::json::{write_fault_object, write_lack_object, write_reply_object};
 use crate::missed::Missed;
 use fault_text::write_indented;
 use io_text::Text;
 use room_files::{write_refused, write_refused_code};
-use room_spec::{Name, Spec, SpecFault};
-use script_play::{Performs, refusal_in, sim_in, write_reply};
-use service_core::{Command, Refusal, Reply, Service};
+use room_spec::{Spec, SpecFault};
+use script_play::{Asked, Follows, write_reply};
+use service_core::{Refusal, Reply, Service};
 use std::alloc::{AllocError, Global};
 use step_words::StepTexts;
 
-/// A service, and what is said of what it did: as text, or as JSON.
+/// What is said of what was done so far: as text, or as JSON.
 #[derive(Drop)]
 pub(crate) struct Tracer<const JSON: bool> {
     alloc: Global,
-    pub(crate) service: Service,
     pub(crate) output: Text,
     pub(crate) missed: Missed,
 }
 
 impl<const JSON: bool> Tracer<JSON> {
     pub(crate) fn new(alloc: Global) -> Tracer<JSON>
-        ensures service { result.service ≡ [] }
         ensures output { result.output ≡ [] }
         ensures missed { result.missed ≡ record { refused = []; strangers = record { names = []; more = 0 } } }
     {
         Tracer {
             alloc,
-            service: Service::new(alloc),
             output: Text::new(alloc),
             missed: Missed::new(alloc),
         }
     }
 
-    /// Executes a command, and writes the reply to it and the steps that it took, or why it was refused.
-    fn tell(&mut self, alloc: Global, command: Command) -> Result<Option<Refusal>, AllocError>
-        ensures { IfOk result (λ refusal. IsPerformed self.old.service (HasTraced JSON self.old.service self.old.missed self.old.output)
-            command refusal self.new.service (HasTraced JSON self.new.service self.new.missed self.new.output)) }
+    /// Writes a reply.
+    fn write_answer(&mut self, asked: &Asked<'_>, reply: &Reply) -> Result<(), AllocError>
+        ensures output { OnOk result (self.new.output ≡ self.old.output ++ answer_text JSON asked.now.name.now (sim_for asked.now.order) reply.now) }
+        ensures missed { self.new.missed ≡ self.old.missed }
     {
-        let name = command.name().clone()?;
-        let sim = sim_in(&command);
-        let decisions = decisions_at(&self.service, &name);
-        let mut steps = StepTexts::new(alloc, JSON);
-        let reply = self.service.apply_observed(alloc, command, &mut steps);
-        let bytes = name.as_str().as_bytes();
-        write_answer::<JSON>(alloc, &mut self.output, bytes, sim, &reply)?;
-        write_notes::<JSON>(
-            alloc,
-            &mut self.output,
-            &mut self.missed,
-            bytes,
-            &reply,
-            steps,
-        )?;
-        write_decisions::<JSON>(&mut self.output, &reply, decisions.as_slice())?;
-        Ok(refusal_in(&reply))
+        let sim = asked.order.sim();
+        if JSON {
+            return write_reply_object(self.alloc, &mut self.output, asked.name, sim, reply);
+        }
+        write_reply(&mut self.output, asked.name, sim, reply)
     }
 
-    /// Has steps refused if the bytes are no name.
-    fn refuse_steps(
+    /// Writes under a reply to a command with this name why the command was refused, or the steps that it took.
+    fn write_notes(
         &mut self,
-        alloc: Global,
-        bytes: &[u8],
-        sim: u8,
-        count: u16,
-    ) -> Result<Option<Refusal>, AllocError>
-        requires { is_name bytes.now ≡ false }
-        ensures performed { IfOk result (λ refusal. IsPerformed self.old.service (HasTraced JSON self.old.service self.old.missed self.old.output)
-            (Step bytes.now sim count) refusal self.new.service (HasTraced JSON self.new.service self.new.missed self.new.output)) }
-        ensures nowhere { IfOk result (λ refusal. refusal ≡ Some NoRoom) }
+        name: &[u8],
+        reply: &Reply,
+        steps: Option<StepTexts>,
+    ) -> Result<(), AllocError>
+        ensures output { OnOk result (self.new.output ≡ self.old.output ++ notes_after JSON self.old.missed name.now reply.now steps) }
+        ensures missed { OnOk result (self.new.missed ≡ missed_by self.old.missed name.now reply.now) }
+        ensures whole { OnOk result (refusal_in reply.now ≡ None → IsWhole steps) }
     {
-        let Err(refusal) = self.service.step(bytes, sim, count) else {
-            unreachable!() // each room has a name
-        };
-        let reply = Reply::Refused(refusal);
-        write_answer::<JSON>(alloc, &mut self.output, bytes, sim, &reply)?;
-        let steps = StepTexts::new(alloc, JSON);
-        write_notes::<JSON>(
-            alloc,
-            &mut self.output,
-            &mut self.missed,
-            bytes,
-            &reply,
-            steps,
-        )?;
-        Ok(Some(refusal))
+        match reply {
+            Reply::Refused(refusal) => self.write_refusal(name, *refusal),
+            Reply::Begun
+            | Reply::Steps { .. }
+            | Reply::Crash(_)
+            | Reply::Settled
+            | Reply::Report(_)
+            | Reply::Closed => self.write_steps(steps),
+        }
+    }
+
+    /// Writes the steps that were seen.
+    fn write_steps(&mut self, steps: Option<StepTexts>) -> Result<(), AllocError>
+        ensures output { OnOk result (self.new.output ≡ self.old.output ++ lines_in steps) }
+        ensures missed { self.new.missed ≡ self.old.missed }
+        ensures whole { OnOk result (IsWhole steps) }
+    {
+        match steps {
+            Some(steps) => {
+                let lines = steps.into_lines()?;
+                self.output.put(lines.as_bytes())
+            }
+            None => Ok(()),
+        }
+    }
+
+    /// Writes under a command with this name why it was refused, in text.
+    fn write_refusal(&mut self, name: &[u8], refusal: Refusal) -> Result<(), AllocError>
+        ensures output { OnOk result (self.new.output ≡ self.old.output ++ refusal_shown JSON self.old.missed name.now refusal) }
+        ensures missed { OnOk result (self.new.missed ≡ missed_refused self.old.missed name.now refusal) }
+    {
+        if JSON {
+            return self.missed.keep(self.alloc, name, refusal);
+        }
+        match refusal {
+            Refusal::NoRoom => self
+                .missed
+                .write_stranger(self.alloc, &mut self.output, name),
+            Refusal::NameTaken | Refusal::NoSimulator | Refusal::OutOfMemory => {
+                write_indented(&mut self.output, refusal.sentence().as_bytes())
+            }
+        }
     }
 }
 
-impl<const JSON: bool> Performs for Tracer<JSON> {
-    ghost use Rattle.view_trace.specs.Trace.{HasTraced};
+impl<const JSON: bool> Follows for Tracer<JSON> {
+    ghost use Rattle.std.specs.Prelude.{◌≡◌, Some};
+    ghost use Rattle.step_words.specs.Told.{nothing_told};
+    ghost use Rattle.view_trace.specs.Trace.{IsTraced};
 
-    ghost rooms = { λ tracer. tracer.service };
+    type Watch = StepTexts;
 
-    ghost has_done = { λ tracer. HasTraced JSON tracer.service tracer.missed tracer.output };
+    ghost follows = { λ old rooms done after new. IsTraced JSON (record { missed = old.missed; output = old.output }) rooms done after (record { missed = new.missed; output = new.output }) };
 
-    fn open(
+    ghost readies = { λ old rooms command new watch. (new.missed ≡ old.missed) × (new.output ≡ old.output) × (watch ≡ Some (nothing_told JSON)) };
+
+    fn opens(
         &mut self,
         alloc: Global,
         _block: &[u8],
-        spec: Spec,
-    ) -> Result<Option<Refusal>, AllocError> {
-        self.tell(alloc, Command::Begin(spec))
+        _spec: &Spec,
+    ) -> Result<Option<StepTexts>, AllocError> {
+        Ok(Some(StepTexts::new(alloc, JSON)))
     }
 
-    fn perform(&mut self, alloc: Global, command: Command) -> Result<Option<Refusal>, AllocError> {
-        self.tell(alloc, command)
-    }
-
-    fn step(
+    fn before(
         &mut self,
         alloc: Global,
-        name: &[u8],
-        sim: u8,
-        count: u16,
-    ) -> Result<Option<Refusal>, AllocError> {
-        match Name::read(name) {
-            Some(name) => self.tell(alloc, Command::Step { name, sim, count }),
-            None => self.refuse_steps(alloc, name, sim, count),
-        }
+        _asked: &Asked<'_>,
+        _rooms: &Service,
+    ) -> Result<Option<StepTexts>, AllocError> {
+        Ok(Some(StepTexts::new(alloc, JSON)))
+    }
+
+    fn after(
+        &mut self,
+        asked: &Asked<'_>,
+        reply: Reply,
+        watch: &mut Option<StepTexts>,
+        rooms: &Service,
+    ) -> Result<(), AllocError> {
+        self.write_answer(asked, &reply)?;
+        self.write_notes(asked.name, &reply, watch.take())?;
+        write_decisions::<JSON>(&mut self.output, &reply, rooms, asked.name)
     }
 
     fn refuse(&mut self, line: u64, fault: SpecFault) -> Result<(), AllocError> {
@@ -171,69 +188,4 @@ fn write_lack<const JSON: bool>(
     let refusal = Refusal::OutOfMemory;
     write_refused_code(output, line, refusal.code())?;
     write_indented(output, refusal.sentence().as_bytes())
-}
-
-/// Writes a reply to a command for the room of this name and for this simulator of it.
-fn write_answer<const JSON: bool>(
-    alloc: Global,
-    output: &mut Text,
-    name: &[u8],
-    sim: u8,
-    reply: &Reply,
-) -> Result<(), AllocError>
-    ensures { OnOk result (output.new ≡ output.old ++ answer_text JSON name.now sim reply.now) }
-{
-    if JSON {
-        return write_reply_object(alloc, output, name, sim, reply);
-    }
-    write_reply(output, name, sim, reply)
-}
-
-/// Writes under a reply to a command with this name why the command was refused, or the steps that it took.
-fn write_notes<const JSON: bool>(
-    alloc: Global,
-    output: &mut Text,
-    missed: &mut Missed,
-    name: &[u8],
-    reply: &Reply,
-    steps: StepTexts,
-) -> Result<(), AllocError>
-    ensures notes { OnOk result (output.new ≡ output.old ++ notes_after JSON missed.old name.now reply.now steps) }
-    ensures missed { OnOk result (missed.new ≡ missed_by missed.old name.now reply.now) }
-    ensures whole { OnOk result (refusal_in reply.now ≡ None → steps.lacks ≡ false) }
-{
-    match reply {
-        Reply::Refused(refusal) => write_refusal::<JSON>(alloc, output, missed, name, *refusal),
-        Reply::Begun
-        | Reply::Steps { .. }
-        | Reply::Crash(_)
-        | Reply::Settled
-        | Reply::Report(_)
-        | Reply::Closed => {
-            let lines = steps.into_lines()?;
-            output.put(lines.as_bytes())
-        }
-    }
-}
-
-/// Writes under a command with this name why it was refused, in text.
-fn write_refusal<const JSON: bool>(
-    alloc: Global,
-    output: &mut Text,
-    missed: &mut Missed,
-    name: &[u8],
-    refusal: Refusal,
-) -> Result<(), AllocError>
-    ensures notes { OnOk result (output.new ≡ output.old ++ refusal_shown JSON missed.old name.now refusal) }
-    ensures missed { OnOk result (missed.new ≡ missed_refused missed.old name.now refusal) }
-{
-    if JSON {
-        return missed.keep(alloc, name, refusal);
-    }
-    match refusal {
-        Refusal::NoRoom => missed.write_stranger(alloc, output, name),
-        Refusal::NameTaken | Refusal::NoSimulator | Refusal::OutOfMemory => {
-            write_indented(output, refusal.sentence().as_bytes())
-        }
-    }
 }

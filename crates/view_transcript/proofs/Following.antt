@@ -6,10 +6,10 @@ use Rattle.room_core.specs.Calls.{RoomState, Crash as CrashCall, Settle as Settl
 use Rattle.room_core.specs.Fields.{Fields, opening_fields, replay_fields}
 use Rattle.room_core.specs.Reading.{AreFieldsOf}
 use Rattle.room_core.specs.Rooms.{Configuration, ScheduleEvent}
-use Rattle.room_core.specs.Observing.{TakenStep, is_stepped}
+use Rattle.room_core.specs.Observing.{AreSeen, TakenStep, is_stepped}
 use Rattle.room_core.proofs.CallerLemmas.{opening_data}
 use Rattle.room_core.proofs.CallerLemmasOnSpecs.{same_spec}
-use Rattle.ws_history.specs.Notes.{AreNotesOf, Notes}
+use Rattle.ws_history.specs.Notes.{AreNotesOf, IsNoted, Notes}
 use Rattle.service_core.specs.declared.command.Command.{Command}
 use Rattle.service_core.specs.declared.command.Command.TheVariants as commands
 use Rattle.service_core.specs.declared.reply.Reply.{Reply}
@@ -18,9 +18,10 @@ use Rattle.service_core.specs.declared.reply.Refusal.TheVariants.{OutOfMemory}
 use Rattle.service_core.specs.Replies.{name_in, reply_to}
 use Rattle.service_core.specs.Rooms.{Applies, Entries, IsStateOf, IsWant, core_after, events_by, room_at, room_left, room_stepped, steps_of}
 use Rattle.service_core.proofs.CallerLemmas.{notes_lead}
+use Rattle.script_play.specs.Following.{AreWatched}
 use Rattle.script_play.specs.Play.{IsBlockOf}
 use Rattle.view_transcript.specs.Courses.{Course, after_closed, begun, course_after, left_as, under}
-use Rattle.view_transcript.specs.Transcripts.{AreInOrder, HasBegun, HasEndedIf, HasSeen, HasSeenIf, IsFollowed, IsFresh, IsKept, IsKnown, Keeps, KeptRoom}
+use Rattle.view_transcript.specs.Transcripts.{AreByNotes, AreInOrder, HasBegun, HasEndedIf, HasSeen, HasSeenIf, IsFollowed, IsFresh, IsKept, IsKnown, Keeps, KeptRoom}
 
 -- ---- the spec of a room stays
 
@@ -49,25 +50,28 @@ spec_left room after (commands.Close name) left = absurd cc
 -- ---- what is known
 
 -- an open room, or a closed one
-pub data Stands (course : Course) (room : Option RoomState) (notes : Notes) (events : Option (List Event)) : Type 0 where
-  open_room : course.is_open ≡ true → events ≡ None → room ≡ Some course.room → AreNotesOf (configuration_of course.room) course.schedule notes → Stands course room notes events
+pub data Stands (course : Course) (room : Option RoomState) (notes : Option Notes) (events : Option (List Event)) : Type 0 where
+  open_room : (known : Notes) → course.is_open ≡ true → events ≡ None → notes ≡ Some known → room ≡ Some course.room → AreNotesOf (configuration_of course.room) course.schedule known → Stands course room notes events
   closed_room : (known : List Event) → course.is_open ≡ false → events ≡ Some known → room ≡ None → AreInOrder course.room course.schedule known → Stands course room notes events
 
-stands_by : (course : Course) (room : Option RoomState) (notes : Notes) (events some : Option (List Event)) (b : Bool) → course.is_open ≡ b → events ≡ some → IsKnown b course room notes some → Stands course room notes events
-stands_by course room notes events None true is none known = open_room is none known.0 known.1
-stands_by course room notes events (Some all) true is some known = absurd known
-stands_by course room notes events None false is none known = absurd known
-stands_by course room notes events (Some all) false is some known = closed_room all is some known.0 known.1
+stands_by : (course : Course) (room : Option RoomState) (notes held : Option Notes) (events some : Option (List Event)) (b : Bool) → course.is_open ≡ b → notes ≡ held → events ≡ some → IsKnown b course room held some → Stands course room notes events
+stands_by course room notes None events None true is same none known = absurd known
+stands_by course room notes (Some held) events None true is same none known = open_room held is none same known.0 known.1
+stands_by course room notes None events (Some all) true is same some known = absurd known
+stands_by course room notes (Some held) events (Some all) true is same some known = absurd known
+stands_by course room notes held events None false is same none known = absurd known
+stands_by course room notes held events (Some all) false is same some known = closed_room all is some known.0 known.1
 
 pub stands : (course : Course) (room : Option RoomState) (kept : KeptRoom) → IsKept course room kept → Stands course room kept.notes kept.events
-stands course room kept is = stands_by course room kept.notes kept.events kept.events course.is_open refl refl is.known
+stands course room kept is = stands_by course room kept.notes kept.notes kept.events kept.events course.is_open refl refl refl is.known
 
 -- an open room that goes on, with notes of it
-kept_open : (room : RoomState) (schedule : List ScheduleEvent) (kept : KeptRoom) (core : Option RoomState) → IsBlockOf room.spec kept.block → kept.events ≡ None → core ≡ Some room → AreNotesOf (configuration_of room) schedule kept.notes
+kept_open : (room : RoomState) (schedule : List ScheduleEvent) (kept : KeptRoom) (core : Option RoomState) (notes : Notes) → IsBlockOf room.spec kept.block → kept.events ≡ None → core ≡ Some room → kept.notes ≡ Some notes → AreNotesOf (configuration_of room) schedule notes
     → IsKept (record { room = room; schedule = schedule; is_open = true }) core kept
-kept_open room schedule kept core block none there are = record {
+kept_open room schedule kept core notes block none there same are = record {
   block = block;
-  known = subst (IsKnown true (record { room = room; schedule = schedule; is_open = true }) core kept.notes) (sym none) (there, are);
+  known = subst (IsKnown true (record { room = room; schedule = schedule; is_open = true }) core kept.notes) (sym none)
+      (subst (λ (n : Option Notes). IsKnown true (record { room = room; schedule = schedule; is_open = true }) core n None) (sym same) (there, are));
 }
 
 kept_closed : (room : RoomState) (schedule : List ScheduleEvent) (kept : KeptRoom) (core : Option RoomState) (events : List Event) → IsBlockOf room.spec kept.block → kept.events ≡ Some events → core ≡ None → AreInOrder room schedule events
@@ -77,23 +81,51 @@ kept_closed room schedule kept core events block some gone are = record {
   known = subst (IsKnown false (record { room = room; schedule = schedule; is_open = false }) core kept.notes) (sym some) (gone, are);
 }
 
+-- ---- steps that are seen
+
+-- no steps change no notes
+still : (notes : Option Notes) → AreWatched IsNoted notes [] notes
+still None = tt
+still (Some notes) = refl
+
+none_seen : (before after : Option Notes) → AreWatched IsNoted before [] after → after ≡ before
+none_seen None None seen = refl
+none_seen None (Some after) seen = absurd seen
+none_seen (Some before) None seen = absurd seen
+none_seen (Some before) (Some after) seen = ap Some (sym seen)
+
+some_notes : (one other : Notes) → Some one ≡ Some other → one ≡ other
+some_notes one other is = cc
+
+seen_from : (steps : List TakenStep) (before after : Option Notes) (notes : Notes) → before ≡ Some notes → AreWatched IsNoted before steps after → (next : Notes) × (after ≡ Some next) × AreSeen IsNoted notes steps next
+seen_from steps None after notes is seen = absurd cc
+seen_from steps (Some before) None notes is seen = absurd seen
+seen_from steps (Some before) (Some after) notes is seen = (after, refl, subst (λ (n : Notes). AreSeen IsNoted n steps after) (some_notes before notes is) seen)
+
+pub nothing_seen : (kept : KeptRoom) → HasSeen [] kept kept
+nothing_seen kept = record { block = refl; notes = still kept.notes; events = refl }
+
+same_kept : (before after : KeptRoom) → HasSeen [] before after → after ≡ before
+same_kept before after seen = λ i. record { block = seen.block i; notes = none_seen before.notes after.notes seen.notes i; events = seen.events i }
+
 -- ---- a room that begins
 
 begins : (spec : RoomSpec) (kept : Option KeptRoom) (core : Option RoomState) (fresh : KeptRoom) → IsFresh spec fresh → kept ≡ Some fresh → core ≡ Some (opening_state spec) → IsFollowed (Some (begun spec)) core kept
 begins spec kept core fresh is here there =
     subst (IsFollowed (Some (begun spec)) core) (sym here)
-    (kept_open (opening_state spec) [] fresh core is.block is.events there (subst (λ (c : Configuration). AreNotesOf c [] fresh.notes) (sym (opening_data spec)) is.notes))
+    (kept_open (opening_state spec) [] fresh core is.known is.block is.events there is.notes_are (subst (λ (c : Configuration). AreNotesOf c [] is.known) (sym (opening_data spec)) is.notes))
 
 -- ---- an open room under a command
 
-module _ (course : Course) (kept : KeptRoom) (block : IsBlockOf course.room.spec kept.block) (none : kept.events ≡ None) (are : AreNotesOf (configuration_of course.room) course.schedule kept.notes) where
+module _ (course : Course) (kept : KeptRoom) (notes : Notes) (block : IsBlockOf course.room.spec kept.block) (none : kept.events ≡ None) (held : kept.notes ≡ Some notes) (are : AreNotesOf (configuration_of course.room) course.schedule notes) where
   -- it goes on, and its steps were seen
   goes_on : (command : Command) (after : RoomState) (core : Option RoomState) (now : KeptRoom) → room_left course.room command ≡ Some after → core ≡ Some after → HasSeen (steps_of (Some course.room) command) kept now → IsKept (under course command) core now
   goes_on command after core now left there seen =
+      let next = seen_from (steps_of (Some course.room) command) kept.notes now.notes notes held seen.notes in
       subst (λ (r : Option RoomState). IsKept (left_as course (events_by course.room command) r) core now) (sym left)
-      (kept_open after (course.schedule ++ events_by course.room command) now core
+      (kept_open after (course.schedule ++ events_by course.room command) now core next.0
       (subst (λ (s : RoomSpec). IsBlockOf s now.block) (sym (spec_left course.room after command left)) (subst (IsBlockOf course.room.spec) (sym seen.block) block))
-      (seen.events ∙ none) there (notes_lead course.room after command course.schedule kept.notes now.notes are seen.notes left))
+      (seen.events ∙ none) there next.1 (notes_lead course.room after command course.schedule notes next.0 are next.2 left))
 
   goes_on_if : (command : Command) (after : RoomState) (core : Option RoomState) (now : Option KeptRoom) → room_left course.room command ≡ Some after → core ≡ Some after → HasSeenIf (steps_of (Some course.room) command) (Some kept) now → IsFollowed (Some (under course command)) core now
   goes_on_if command after core None left there seen = absurd seen
@@ -104,15 +136,14 @@ module _ (course : Course) (kept : KeptRoom) (block : IsBlockOf course.room.spec
   ends name core None gone ended = absurd ended
   ends name core (Some now) gone ended =
       subst (IsKept (under course (commands.Close name)) core) (sym ended.2)
-      (kept_closed course.room course.schedule (record kept { events = Some ended.0 }) core ended.0 block refl gone (ended.1 course.schedule are))
+      (kept_closed course.room course.schedule (record kept { events = Some ended.0 }) core ended.0 block refl gone (subst (λ (n : Option Notes). AreByNotes course.room n ended.0) held ended.1 course.schedule are))
 
 -- ---- a closed room
 
 stays_closed : (course : Course) (core : Option RoomState) (kept : KeptRoom) (now : Option KeptRoom) → IsKept course None kept → core ≡ None → HasSeenIf [] (Some kept) now → IsFollowed (Some course) core now
 stays_closed course core kept None is gone seen = absurd seen
 stays_closed course core kept (Some now) is gone seen =
-    let same : now ≡ kept = λ i. record { block = seen.block i; notes = sym seen.notes i; events = seen.events i } in
-    subst (λ (c : Option RoomState). IsKept course c now) (sym gone) (subst (IsKept course None) (sym same) is)
+    subst (λ (c : Option RoomState). IsKept course c now) (sym gone) (subst (IsKept course None) (sym (same_kept kept now seen)) is)
 
 -- ---- fields of a room with notes
 
@@ -153,32 +184,32 @@ follows_none rooms after (commands.Report name) reply now applies granted there 
 follows_none rooms after (commands.Close name) reply now applies granted there keeps = both_gone (room_at after name) now (left_there rooms after (commands.Close name) reply applies granted None there) keeps
 
 -- where the room of the name is open
-module _ (rooms after : Entries) (course : Course) (kept : KeptRoom) (block : IsBlockOf course.room.spec kept.block) (none : kept.events ≡ None) (are : AreNotesOf (configuration_of course.room) course.schedule kept.notes) where
+module _ (rooms after : Entries) (course : Course) (kept : KeptRoom) (notes : Notes) (block : IsBlockOf course.room.spec kept.block) (none : kept.events ≡ None) (held : kept.notes ≡ Some notes) (are : AreNotesOf (configuration_of course.room) course.schedule notes) where
   leads_on : (command : Command) (reply : Reply) (now : Option KeptRoom) (left : RoomState) → Applies rooms command reply after → reply ≢ Refused OutOfMemory → room_at rooms (name_in command) ≡ Some course.room → room_left course.room command ≡ Some left
       → HasSeenIf (steps_of (room_at rooms (name_in command)) command) (Some kept) now → IsFollowed (Some (under course command)) (room_at after (name_in command)) now
   leads_on command reply now left applies granted there is seen =
-      goes_on_if course kept block none are command left (room_at after (name_in command)) now is (left_there rooms after command reply applies granted (Some course.room) there ∙ is)
+      goes_on_if course kept notes block none held are command left (room_at after (name_in command)) now is (left_there rooms after command reply applies granted (Some course.room) there ∙ is)
       (subst (λ (r : Option RoomState). HasSeenIf (steps_of r command) (Some kept) now) there seen)
 
   pub follows_open : (command : Command) (reply : Reply) (now : Option KeptRoom) → Applies rooms command reply after → reply ≢ Refused OutOfMemory → room_at rooms (name_in command) ≡ Some course.room → Keeps rooms command reply (Some kept) now
       → IsFollowed (Some (under course command)) (room_at after (name_in command)) now
   follows_open (commands.Begin spec) reply now applies granted there keeps =
-      let taken = replied_to rooms after (commands.Begin spec) reply applies granted course.room course.schedule kept.notes there are in
+      let taken = replied_to rooms after (commands.Begin spec) reply applies granted course.room course.schedule notes there are in
       let same : now ≡ Some kept = subst (λ (r : Reply). HasBegun spec r (Some kept) now) taken.1 keeps in
-      goes_on_if course kept block none are (commands.Begin spec) course.room (room_at after spec.name) now refl (left_there rooms after (commands.Begin spec) reply applies granted (Some course.room) there)
-      (subst (HasSeenIf [] (Some kept)) (sym same) (record { block = refl; notes = refl; events = refl }))
+      goes_on_if course kept notes block none held are (commands.Begin spec) course.room (room_at after spec.name) now refl (left_there rooms after (commands.Begin spec) reply applies granted (Some course.room) there)
+      (subst (HasSeenIf [] (Some kept)) (sym same) (nothing_seen kept))
   follows_open (commands.Step name sim count) reply now applies granted there keeps = leads_on (commands.Step name sim count) reply now _ applies granted there refl keeps
   follows_open (commands.Crash name sim) reply now applies granted there keeps = leads_on (commands.Crash name sim) reply now _ applies granted there refl keeps
   follows_open (commands.Settle name) reply now applies granted there keeps = leads_on (commands.Settle name) reply now _ applies granted there refl keeps
   follows_open (commands.Report name) reply now applies granted there keeps = leads_on (commands.Report name) reply now _ applies granted there refl keeps
   follows_open (commands.Close name) reply now applies granted there keeps =
-      ends course kept block none are name (room_at after name) now (left_there rooms after (commands.Close name) reply applies granted (Some course.room) there)
+      ends course kept notes block none held are name (room_at after name) now (left_there rooms after (commands.Close name) reply applies granted (Some course.room) there)
       (subst (λ (r : Option RoomState). HasEndedIf r (Some kept) now) there keeps)
 
 -- where it was closed
 ended_none : (kept : KeptRoom) (now : Option KeptRoom) → HasEndedIf None (Some kept) now → HasSeenIf [] (Some kept) now
 ended_none kept None ended = ended
-ended_none kept (Some now) ended = record { block = ap (λ (k : KeptRoom). k.block) ended; notes = ap (λ (k : KeptRoom). k.notes) (sym ended); events = ap (λ (k : KeptRoom). k.events) ended }
+ended_none kept (Some now) ended = subst (HasSeen [] kept) (sym ended) (nothing_seen kept)
 
 module _ (rooms after : Entries) (course : Course) (kept : KeptRoom) (is : IsKept course None kept) where
   rests : (command : Command) (reply : Reply) (now : Option KeptRoom) → Applies rooms command reply after → reply ≢ Refused OutOfMemory → room_at rooms (name_in command) ≡ None → core_after None command ≡ None → steps_of None command ≡ []
@@ -205,7 +236,7 @@ module _ (rooms after : Entries) (course : Course) (kept : KeptRoom) (is : IsKep
 unseen : (kept now : Option KeptRoom) → HasSeenIf [] kept now → now ≡ kept
 unseen None now seen = seen
 unseen (Some kept) None seen = absurd seen
-unseen (Some kept) (Some now) seen = λ i. Some (record { block = seen.block i; notes = sym seen.notes i; events = seen.events i })
+unseen (Some kept) (Some now) seen = ap Some (same_kept kept now seen)
 
 no_steps : (room : Option RoomState) (name : List ℕ) → steps_of room (commands.Report name) ≡ []
 no_steps None name = refl

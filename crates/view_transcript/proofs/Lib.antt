@@ -1,6 +1,5 @@
 mod Lookups
 mod Following
 mod Noting
-mod Performing
 mod Writing
 mod Looking

@@ -1,68 +1,57 @@
--- What a look at a room that is kept, or a step in no room's name, leaves.
-use Rattle.std.proofs.Common.{◌≡◌, ◌≢◌, ℕ, Bool, true, false, List, [], Option, Some, None, Result, Ok, Err, refl, sym, ap, ◌∙◌, subst}
+-- What is kept of the room of a name before a command to it and after.
+use Rattle.std.proofs.Common.{◌≡◌, ◌∙◌, ℕ, false, List, Option, Some, None, Result, Ok, Err, refl, sym, ap, subst}
+use Rattle.std.specs.Prelude.{⊤}
 use Rattle.std.specs.Result.{OnOk}
-use Rattle.room_core.specs.Observing.{TakenStep}
+use Rattle.room_spec.specs.Rooms.{RoomSpec}
+use Rattle.std.specs.Map.{keys_of}
+use Rattle.std.specs.Str.{bytes_eq}
 use Rattle.room_core.specs.Calls.{RoomState}
-use Rattle.room_core.specs.declared.reply.StepReply.{StepReply}
+use Rattle.room_core.specs.Observing.{TakenStep}
+use Rattle.ws_history.specs.Notes.{IsNoted, Notes}
 use Rattle.service_core.specs.declared.command.Command.{Command}
 use Rattle.service_core.specs.declared.command.Command.TheVariants as commands
 use Rattle.service_core.specs.declared.reply.Reply.{Reply}
-use Rattle.service_core.specs.declared.reply.Refusal.{Refusal}
-use Rattle.service_core.specs.declared.reply.Refusal.TheVariants.{NoRoom, NameTaken, NoSimulator, OutOfMemory}
+use Rattle.service_core.specs.declared.reply.Reply.TheVariants as replies
 use Rattle.service_core.specs.Replies.{name_in}
 use Rattle.service_core.specs.Rooms.{Entries, room_at, steps_of}
+use Rattle.script_play.specs.Following.{AreWatched, IsFor}
+use Rattle.script_play.specs.declared.following.Order.{Order}
+use Rattle.script_play.specs.declared.following.Order.TheVariants as orders
 use Rattle.view_transcript.specs.Courses.{names_by}
-use Rattle.view_transcript.specs.Transcripts.{HasEnded, HasEndedIf, HasSeen, HasSeenIf, Keeps, KeptRoom, Sees}
-
-pub nothing_seen : (kept : Option KeptRoom) → HasSeenIf [] kept kept
-nothing_seen None = refl
-nothing_seen (Some kept) = record { block = refl; notes = refl; events = refl }
-
-abbrev steps_refused : Refusal → Result (ℕ × StepReply) Refusal
-steps_refused refusal = Err refusal
-
--- steps of a room whose name is no name
-pub nowhere : (refusal : Refusal) (named : Bool) → (steps_refused refusal ≢ steps_refused NoRoom → named ≡ true) → named ≡ false → refusal ≡ NoRoom
-nowhere NoRoom named says none = refl
-nowhere NameTaken named says none = absurd (let wrong : true ≡ false = sym (says (λ is. absurd cc)) ∙ none in cc)
-nowhere NoSimulator named says none = absurd (let wrong : true ≡ false = sym (says (λ is. absurd cc)) ∙ none in cc)
-nowhere OutOfMemory named says none = absurd (let wrong : true ≡ false = sym (says (λ is. absurd cc)) ∙ none in cc)
-
--- no steps are seen in the name of no room
-pub nowhere_seen : (room : Option RoomState) (command : Command) (kept : Option KeptRoom) → room ≡ None → steps_of None command ≡ [] → HasSeenIf (steps_of room command) kept kept
-nowhere_seen room command kept gone none = subst (λ (steps : List TakenStep). HasSeenIf steps kept kept) (sym (ap (λ (r : Option RoomState). steps_of r command) gone ∙ none)) (nothing_seen kept)
+use Rattle.view_transcript.specs.Transcripts.{HasEnded, HasEndedIf, HasOpened, HasSeenIf, IsFresh, IsNotedOn, IsOpened, IsReadyAt, IsReadyFor, IsSwapped, Keeps, KeptRoom, KeptRooms, kept_at}
 
 pub where_ok : {E : Type 0} (r : Result (Unit {0}) E) (P Q : Type 0) → (P → Q) → OnOk r P → OnOk r Q
 where_ok (Ok tt) P Q from is = from is
 where_ok (Err error) P Q from is = tt
 
--- ---- a command that is seen
+-- ---- a room that is opened
 
-pub seen_keeps : (rooms : Entries) (command : Command) (reply : Reply) (before after : Option KeptRoom) → Sees command → HasSeenIf (steps_of (room_at rooms (name_in command)) command) before after → Keeps rooms command reply before after
-seen_keeps rooms (commands.Begin spec) reply before after sees seen = absurd sees
-seen_keeps rooms (commands.Step name sim count) reply before after sees seen = seen
-seen_keeps rooms (commands.Crash name sim) reply before after sees seen = seen
-seen_keeps rooms (commands.Settle name) reply before after sees seen = seen
-seen_keeps rooms (commands.Report name) reply before after sees seen = seen
-seen_keeps rooms (commands.Close name) reply before after sees seen = absurd sees
+begun_by : (rooms : Entries) (spec : RoomSpec) (kept : KeptRoom) (before now : KeptRooms) (reply : Reply) → IsFresh spec kept → HasOpened (Some (spec.name, kept)) reply before now → IsNotedOn rooms before (commands.Begin spec) reply now
+begun_by rooms spec kept before now replies.Begun fresh opened = record { own = (kept, fresh, opened.here); others = opened.others; names = opened.names }
+begun_by rooms spec kept before now (replies.Steps taken last) fresh same = record { own = ap (λ k. kept_at k spec.name) same; others = λ name differs. ap (λ k. kept_at k name) same; names = ap keys_of same }
+begun_by rooms spec kept before now (replies.Crash answer) fresh same = record { own = ap (λ k. kept_at k spec.name) same; others = λ name differs. ap (λ k. kept_at k name) same; names = ap keys_of same }
+begun_by rooms spec kept before now replies.Settled fresh same = record { own = ap (λ k. kept_at k spec.name) same; others = λ name differs. ap (λ k. kept_at k name) same; names = ap keys_of same }
+begun_by rooms spec kept before now (replies.Report report) fresh same = record { own = ap (λ k. kept_at k spec.name) same; others = λ name differs. ap (λ k. kept_at k name) same; names = ap keys_of same }
+begun_by rooms spec kept before now replies.Closed fresh same = record { own = ap (λ k. kept_at k spec.name) same; others = λ name differs. ap (λ k. kept_at k name) same; names = ap keys_of same }
+begun_by rooms spec kept before now (replies.Refused refusal) fresh same = record { own = ap (λ k. kept_at k spec.name) same; others = λ name differs. ap (λ k. kept_at k name) same; names = ap keys_of same }
 
-pub seen_names : (command : Command) (reply : Reply) (names : List (List ℕ)) → Sees command → names ≡ names_by command reply names
-seen_names (commands.Begin spec) reply names sees = absurd sees
-seen_names (commands.Step name sim count) reply names sees = refl
-seen_names (commands.Crash name sim) reply names sees = refl
-seen_names (commands.Settle name) reply names sees = refl
-seen_names (commands.Report name) reply names sees = refl
-seen_names (commands.Close name) reply names sees = absurd sees
+pub opened_on : (rooms : Entries) (spec : RoomSpec) (command : Command) (before ready now : KeptRooms) (next : Option (List ℕ × KeptRoom)) (notes : Option Notes) (reply : Reply) → command ≡ commands.Begin spec → IsReadyFor rooms before command ready next notes → HasOpened next reply ready now
+    → IsNotedOn rooms before command reply now
+opened_on rooms spec command before ready now next notes reply is ready_is opened =
+    let known = subst (λ (c : Command). IsReadyFor rooms before c ready next notes) is ready_is in
+    subst (λ (c : Command). IsNotedOn rooms before c reply now) (sym is)
+    (begun_by rooms spec known.1 before now reply known.2 (subst (λ (k : KeptRooms). HasOpened (Some (spec.name, known.1)) reply k now) known.0 (subst (λ (n : Option (List ℕ × KeptRoom)). HasOpened n reply ready now) known.3 opened)))
 
--- of this one something was kept
-pub seen_here : (steps : List TakenStep) (before after : Option KeptRoom) (old new : KeptRoom) → before ≡ Some old → after ≡ Some new → HasSeen steps old new → HasSeenIf steps before after
-seen_here steps before after old new was is seen = subst (λ (b : Option KeptRoom). HasSeenIf steps b after) (sym was) (subst (HasSeenIf steps (Some old)) (sym is) seen)
-
--- and of this one nothing
-pub seen_nowhere : (steps : List TakenStep) (before : Option KeptRoom) → before ≡ None → HasSeenIf steps before before
-seen_nowhere steps before none = subst (λ (b : Option KeptRoom). HasSeenIf steps b b) (sym none) refl
+pub opened_here : (next : Option (List ℕ × KeptRoom)) (name : List ℕ) (kept : KeptRoom) (before after : KeptRooms) → next ≡ Some (name, kept) → IsOpened name kept before after → HasOpened next replies.Begun before after
+opened_here next name kept before after is opened = subst (λ (n : Option (List ℕ × KeptRoom)). HasOpened n replies.Begun before after) (sym is) opened
 
 -- ---- a room that is closed
+
+pub ended_on : (rooms : Entries) (name : List ℕ) (command : Command) (before ready : KeptRooms) (next : Option (List ℕ × KeptRoom)) (notes : Option Notes) (reply : Reply) → command ≡ commands.Close name → IsReadyFor rooms before command ready next notes
+    → IsNotedOn rooms before command reply ready
+ended_on rooms name command before ready next notes reply is ready_is =
+    let known = subst (λ (c : Command). IsReadyFor rooms before c ready next notes) is ready_is in
+    subst (λ (c : Command). IsNotedOn rooms before c reply ready) (sym is) (record { own = known.here; others = known.others; names = known.names })
 
 pub ended_here : (room : Option RoomState) (before after : Option KeptRoom) (core : RoomState) (old new : KeptRoom) → room ≡ Some core → before ≡ Some old → after ≡ Some new → HasEnded (Some core) old new → HasEndedIf room before after
 ended_here room before after core old new there was is ended =
@@ -77,3 +66,54 @@ ended_nowhere room (Some kept) gone = subst (λ (r : Option RoomState). HasEnded
 -- or nothing is kept of it
 pub ended_unkept : (room : Option RoomState) (kept : Option KeptRoom) → kept ≡ None → HasEndedIf room kept kept
 ended_unkept room kept none = subst (λ (k : Option KeptRoom). HasEndedIf room k k) (sym none) refl
+
+-- ---- all other commands
+
+pub swapped_here : (notes : Option Notes) (before after : Option KeptRoom) (kept : KeptRoom) (given : Option Notes) → before ≡ Some kept → after ≡ Some (record kept { notes = notes }) → given ≡ kept.notes → IsSwapped notes before after given
+swapped_here notes before after kept given was is same = subst (λ (b : Option KeptRoom). IsSwapped notes b after given) (sym was) (is, same)
+
+pub swapped_nowhere : (notes : Option Notes) (kept : Option KeptRoom) → kept ≡ None → IsSwapped notes kept kept None
+swapped_nowhere notes kept none = subst (λ (k : Option KeptRoom). IsSwapped notes k k None) (sym none) (refl, refl)
+
+lent_seen : (steps : List TakenStep) (before ready now : Option KeptRoom) (start watch given : Option Notes) → IsSwapped None before ready start → IsSwapped watch ready now given → AreWatched IsNoted start steps watch → HasSeenIf steps before now
+lent_seen steps None ready now start watch given lent noted seen = (subst (λ (r : Option KeptRoom). IsSwapped watch r now given) lent.0 noted).0
+lent_seen steps (Some kept) ready now start watch given lent noted seen =
+    subst (HasSeenIf steps (Some kept)) (sym (subst (λ (r : Option KeptRoom). IsSwapped watch r now given) lent.0 noted).0)
+    (record { block = refl; notes = subst (λ (n : Option Notes). AreWatched IsNoted n steps watch) lent.1 seen; events = refl })
+
+abbrev pub Sees : Command → Type 0
+Sees (commands.Begin spec) = ⊥
+Sees (commands.Close name) = ⊥
+Sees command = ⊤
+
+-- an order that neither opens a room nor closes one
+abbrev pub IsOther : Order → Type 0
+IsOther orders.Open = ⊥
+IsOther orders.Close = ⊥
+IsOther order = ⊤
+
+pub sees_by : (order : Order) (name : List ℕ) (command : Command) → IsFor order name command → IsOther order → Sees command
+sees_by orders.Open name command is other = absurd other
+sees_by (orders.Step sim count) name command is other = subst Sees (sym is) tt
+sees_by (orders.Crash sim) name command is other = subst Sees (sym is) tt
+sees_by orders.Settle name command is other = subst Sees (sym is) tt
+sees_by orders.Report name command is other = subst Sees (sym is) tt
+sees_by orders.Close name command is other = absurd other
+
+module _ (rooms : Entries) (before ready now : KeptRooms) (start watch given : Option Notes) (reply : Reply) where
+  seen_at : (command : Command) → ((old new : Option KeptRoom) → HasSeenIf (steps_of (room_at rooms (name_in command)) command) old new → Keeps rooms command reply old new) → ((names : List (List ℕ)) → names_by command reply names ≡ names)
+      → IsReadyAt (λ old new. IsSwapped None old new start) (name_in command) before ready → IsReadyAt (λ old new. IsSwapped watch old new given) (name_in command) ready now → AreWatched IsNoted start (steps_of (room_at rooms (name_in command)) command) watch → IsNotedOn rooms before command reply now
+  seen_at command keeps names lent noted seen = record {
+    own = keeps _ _ (lent_seen (steps_of (room_at rooms (name_in command)) command) _ _ _ start watch given lent.here noted.here seen);
+    others = λ name differs. noted.others name differs ∙ lent.others name differs;
+    names = noted.names ∙ lent.names ∙ sym (names (keys_of before));
+  }
+
+  pub seen_on : (command : Command) (next : Option (List ℕ × KeptRoom)) → Sees command → IsReadyFor rooms before command ready next start → IsReadyAt (λ old new. IsSwapped watch old new given) (name_in command) ready now
+      → AreWatched IsNoted start (steps_of (room_at rooms (name_in command)) command) watch → IsNotedOn rooms before command reply now
+  seen_on (commands.Begin spec) next sees lent noted seen = absurd sees
+  seen_on (commands.Step name sim count) next sees lent noted seen = seen_at (commands.Step name sim count) (λ old new is. is) (λ names. refl) lent noted seen
+  seen_on (commands.Crash name sim) next sees lent noted seen = seen_at (commands.Crash name sim) (λ old new is. is) (λ names. refl) lent noted seen
+  seen_on (commands.Settle name) next sees lent noted seen = seen_at (commands.Settle name) (λ old new is. is) (λ names. refl) lent noted seen
+  seen_on (commands.Report name) next sees lent noted seen = seen_at (commands.Report name) (λ old new is. is) (λ names. refl) lent noted seen
+  seen_on (commands.Close name) next sees lent noted seen = absurd sees

@@ -9,10 +9,11 @@ use Rattle.room_files.specs.BlockLists.{whole_block}
 use Rattle.report_text.specs.ReportTexts.{event_lines}
 use Rattle.std.specs.Str.{bytes_eq}
 use Rattle.room_core.specs.Calls.{RoomState}
+use Rattle.ws_history.specs.Notes.{Notes}
 use Rattle.service_core.specs.Rooms.{Entries, room_at}
 use Rattle.script_play.specs.Play.{Done, IsBlockOf}
 use Rattle.view_transcript.specs.Courses.{Course, course_of}
-use Rattle.view_transcript.specs.Transcripts.{AreInOrder, AreRoomsOf, AreWrittenFrom, HasEvents, HasNoted, IsFollowed, IsWrittenFrom, IsWrittenIf, KeptRoom, KeptRooms, Written, WrittenRooms, kept_at, transcript_text}
+use Rattle.view_transcript.specs.Transcripts.{AreByNotes, AreInOrder, AreRoomsOf, AreWrittenFrom, HasEvents, HasNoted, IsFollowed, IsWrittenFrom, IsWrittenIf, KeptRoom, KeptRooms, Written, WrittenRooms, kept_at, transcript_text}
 use Rattle.view_transcript.proofs.Following.{Stands, open_room, closed_room, stands}
 use Rattle.view_transcript.proofs.Lookups.{same_name}
 use Rattle.transcript.specs.declared.event.Event.{Event}
@@ -58,8 +59,9 @@ written_if rooms name (Some course) core (Some kept) (Some written) there is mat
     record { block = subst (IsBlockOf course.room.spec) (sym match.block) is.block; events = by (stands course core kept is) }
   where
     by : Stands course core kept.notes kept.events → AreInOrder course.room course.schedule written.events
-    by (open_room opened none here are) =
-        subst (λ (c : Option RoomState). HasEvents c kept.notes None written.events) (there ∙ here) (subst (λ (e : Option (List Event)). HasEvents (room_at rooms name) kept.notes e written.events) none match.events) course.schedule are
+    by (open_room notes opened none held here are) =
+        subst (λ (n : Option Notes). AreByNotes course.room n written.events) held
+        (subst (λ (c : Option RoomState). HasEvents c kept.notes None written.events) (there ∙ here) (subst (λ (e : Option (List Event)). HasEvents (room_at rooms name) kept.notes e written.events) none match.events)) course.schedule are
     by (closed_room known closed some gone are) =
         subst (AreInOrder course.room course.schedule) (sym (subst (λ (e : Option (List Event)). HasEvents (room_at rooms name) kept.notes e written.events) some match.events)) are
 

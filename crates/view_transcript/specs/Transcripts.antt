@@ -11,7 +11,7 @@ use Rattle.room_core.specs.Calls.{RoomState, configuration_of}
 use Rattle.room_core.specs.Fields.{Fields}
 use Rattle.room_core.specs.Reading.{AreFieldsOf}
 use Rattle.room_core.specs.Rooms.{IsLegal, ScheduleEvent, opening, replay}
-use Rattle.room_core.specs.Observing.{AreSeen, TakenStep}
+use Rattle.room_core.specs.Observing.{TakenStep}
 use Rattle.ws_history.specs.Linearizations.{AreEventsAtSteps, LackAtMostASnapshot, events_of}
 use Rattle.ws_history.specs.Notes.{AreNotesOf, IsNoted, Notes}
 use Rattle.ws_history.specs.Sources.{history_of}
@@ -20,14 +20,14 @@ use Rattle.service_core.specs.declared.command.Command.{Command}
 use Rattle.service_core.specs.declared.command.Command.TheVariants as commands
 use Rattle.service_core.specs.declared.reply.Reply.{Reply}
 use Rattle.service_core.specs.declared.reply.Reply.TheVariants.{Begun}
-use Rattle.service_core.specs.declared.reply.Refusal.{Refusal}
 use Rattle.service_core.specs.Replies.{name_in}
-use Rattle.service_core.specs.Rooms.{Applies, Entries, room_at, steps_of}
-use Rattle.script_play.specs.Play.{AreDone, AreReplies, Done, IsBlockOf, commands_of, ending_of, refusal_in, replies_in}
+use Rattle.service_core.specs.Rooms.{Entries, room_at, steps_of}
+use Rattle.script_play.specs.Following.{AreWatched}
+use Rattle.script_play.specs.Play.{AreDone, AreReplies, Done, Faulty, IsBlockOf, Replied, Unread, commands_of, ending_of, replies_in}
 use Rattle.room_files.specs.BlockLists.{whole_block}
 use Rattle.report_text.specs.ReportTexts.{event_lines}
 use Rattle.script_play.specs.Script.{Entry as Asked, script_says}
-use Rattle.view_transcript.specs.Courses.{Course, course_of, names_by, names_in}
+use Rattle.view_transcript.specs.Courses.{Course, course_of, names_by, names_in, with_name}
 
 -- ---- one room
 
@@ -92,7 +92,8 @@ pub record IsTranscribed (input : List ℕ) (ending : Result Outcome AllocError)
 -- what is kept of a room: its block, notes of its steps, and its events if it was closed
 pub record KeptRoom : Type 0 where
   pub block : List ℕ
-  pub notes : Notes
+  -- none while a command to it is executed
+  pub notes : Option Notes
   pub events : Option (List Event)
 
 abbrev pub KeptRooms : Type 0
@@ -102,12 +103,14 @@ abbrev pub kept_at : KeptRooms → List ℕ → Option KeptRoom
 kept_at kept name = lookup (bytes_eq name) kept
 
 -- these are the events of a room, by the notes of its steps
-abbrev pub AreByNotes : RoomState → Notes → List Event → Type 0
-AreByNotes room notes events = (schedule : List ScheduleEvent) → AreNotesOf (configuration_of room) schedule notes → AreInOrder room schedule events
+abbrev pub AreByNotes : RoomState → Option Notes → List Event → Type 0
+AreByNotes room None events = ⊤
+AreByNotes room (Some notes) events = (schedule : List ScheduleEvent) → AreNotesOf (configuration_of room) schedule notes → AreInOrder room schedule events
 
 -- what is known of an open room by its notes, and of a closed one by its events
-abbrev pub IsKnown : Bool → Course → Option RoomState → Notes → Option (List Event) → Type 0
-IsKnown true course room notes None = (room ≡ Some course.room) × AreNotesOf (configuration_of course.room) course.schedule notes
+abbrev pub IsKnown : Bool → Course → Option RoomState → Option Notes → Option (List Event) → Type 0
+IsKnown true course room None None = ⊥
+IsKnown true course room (Some notes) None = (room ≡ Some course.room) × AreNotesOf (configuration_of course.room) course.schedule notes
 IsKnown false course room notes (Some events) = (room ≡ None) × AreInOrder course.room course.schedule events
 IsKnown true course room notes (Some events) = ⊥
 IsKnown false course room notes None = ⊥
@@ -123,21 +126,18 @@ IsFollowed None (Some room) kept = ⊥
 IsFollowed None None (Some kept) = ⊥
 IsFollowed (Some course) room None = ⊥
 
--- all of this was done, and leaves these rooms, of which this is kept
-pub record HasNoted (all : List Done) (rooms : Entries) (kept : KeptRooms) : Type 0 where
-  pub names : keys_of kept ≡ names_in all
-  pub each : (name : List ℕ) → IsFollowed (course_of name all) (room_at rooms name) (kept_at kept name)
-
 -- a room of which no simulator has taken a step
 pub record IsFresh (spec : RoomSpec) (kept : KeptRoom) : Type 0 where
   pub block : IsBlockOf spec kept.block
-  pub notes : AreNotesOf (opening spec) [] kept.notes
+  pub known : Notes
+  pub notes_are : kept.notes ≡ Some known
+  pub notes : AreNotesOf (opening spec) [] known
   pub events : kept.events ≡ None
 
 -- of a room that took these steps what is kept has seen them
 pub record HasSeen (steps : List TakenStep) (before after : KeptRoom) : Type 0 where
   pub block : after.block ≡ before.block
-  pub notes : AreSeen IsNoted before.notes steps after.notes
+  pub notes : AreWatched IsNoted before.notes steps after.notes
   pub events : after.events ≡ before.events
 
 abbrev pub HasSeenIf : List TakenStep → Option KeptRoom → Option KeptRoom → Type 0
@@ -159,12 +159,6 @@ abbrev pub HasBegun : RoomSpec → Reply → Option KeptRoom → Option KeptRoom
 HasBegun spec Begun before after = (kept : KeptRoom) × IsFresh spec kept × (after ≡ Some kept)
 HasBegun spec reply before after = after ≡ before
 
--- a command that neither opens a room nor closes one
-abbrev pub Sees : Command → Type 0
-Sees (commands.Begin spec) = ⊥
-Sees (commands.Close name) = ⊥
-Sees command = ⊤
-
 -- what a command makes of what is kept of the room of its name
 abbrev pub Keeps : Entries → Command → Reply → Option KeptRoom → Option KeptRoom → Type 0
 Keeps rooms (commands.Begin spec) reply before after = HasBegun spec reply before after
@@ -174,19 +168,56 @@ Keeps rooms (commands.Crash name sim) reply before after = HasSeenIf (steps_of (
 Keeps rooms (commands.Settle name) reply before after = HasSeenIf (steps_of (room_at rooms name) (commands.Settle name)) before after
 Keeps rooms (commands.Report name) reply before after = HasSeenIf (steps_of (room_at rooms name) (commands.Report name)) before after
 
--- a command was done; this says why it was refused, if it was
-pub record IsNotedOn (rooms : Entries) (kept : KeptRooms) (command : Command) (refusal : Option Refusal) (rooms_after : Entries) (kept_after : KeptRooms) : Type 0 where
-  pub reply : Reply
-  pub applies : Applies rooms command reply rooms_after
-  pub refusal_is : refusal ≡ refusal_in reply
+-- a command was done
+pub record IsNotedOn (rooms : Entries) (kept : KeptRooms) (command : Command) (reply : Reply) (kept_after : KeptRooms) : Type 0 where
   pub own : Keeps rooms command reply (kept_at kept (name_in command)) (kept_at kept_after (name_in command))
   pub others : (name : List ℕ) → bytes_eq name (name_in command) ≡ false → kept_at kept_after name ≡ kept_at kept name
   pub names : keys_of kept_after ≡ names_by command reply (keys_of kept)
 
+-- one thing more was done to these rooms, which led to those
+abbrev pub IsNotedBy : KeptRooms → Entries → Done → Entries → KeptRooms → Type 0
+IsNotedBy before rooms (Replied command reply) left now = IsNotedOn rooms before command reply now
+IsNotedBy before rooms (Faulty line fault) left now = now ≡ before
+IsNotedBy before rooms (Unread line) left now = now ≡ before
+
+-- all of this was done, and leaves these rooms, of which this is kept
+pub record HasNoted (all : List Done) (rooms : Entries) (kept : KeptRooms) : Type 0 where
+  pub names : keys_of kept ≡ names_in all
+  pub each : (name : List ℕ) → IsFollowed (course_of name all) (room_at rooms name) (kept_at kept name)
+
+-- ---- before a command, and after it
+
+-- these notes are put in the place of those that are kept of a room, if something is, and those are given
+abbrev pub IsSwapped : Option Notes → Option KeptRoom → Option KeptRoom → Option Notes → Type 0
+IsSwapped notes None after given = (after ≡ None) × (given ≡ None)
+IsSwapped notes (Some before) after given = (after ≡ Some (record before { notes = notes })) × (given ≡ before.notes)
+
+pub record IsOpened (name : List ℕ) (room : KeptRoom) (before after : KeptRooms) : Type 0 where
+  pub here : kept_at after name ≡ Some room
+  pub others : (other : List ℕ) → bytes_eq other name ≡ false → kept_at after other ≡ kept_at before other
+  pub names : keys_of after ≡ with_name (keys_of before) name
+
+-- the room of this name was opened, if it was
+abbrev pub HasOpened : Option (List ℕ × KeptRoom) → Reply → KeptRooms → KeptRooms → Type 0
+HasOpened (Some (name, room)) Begun before after = IsOpened name room before after
+HasOpened next reply before after = after ≡ before
+
+pub record IsReadyAt (own : Option KeptRoom → Option KeptRoom → Type 0) (name : List ℕ) (before after : KeptRooms) : Type 0 where
+  pub here : own (kept_at before name) (kept_at after name)
+  pub others : (other : List ℕ) → bytes_eq other name ≡ false → kept_at after other ≡ kept_at before other
+  pub names : keys_of after ≡ keys_of before
+
+-- What is kept is made ready for a command to these rooms: of a room that is to be opened there is something to keep, the events of one that is to
+-- be closed are kept, and the notes of all others are lent.
+abbrev pub IsReadyFor : Entries → KeptRooms → Command → KeptRooms → Option (List ℕ × KeptRoom) → Option Notes → Type 0
+IsReadyFor rooms before (commands.Begin spec) after next notes = (after ≡ before) × (kept : KeptRoom) × IsFresh spec kept × (next ≡ Some (spec.name, kept))
+IsReadyFor rooms before (commands.Close name) after next notes = IsReadyAt (HasEndedIf (room_at rooms name)) name before after
+IsReadyFor rooms before command after next notes = IsReadyAt (λ old new. IsSwapped None old new notes) (name_in command) before after
+
 -- ---- the text
 
 -- the events of a room: those that are kept, or by its notes if it is open
-abbrev pub HasEvents : Option RoomState → Notes → Option (List Event) → List Event → Type 0
+abbrev pub HasEvents : Option RoomState → Option Notes → Option (List Event) → List Event → Type 0
 HasEvents room notes (Some known) events = events ≡ known
 HasEvents (Some core) notes None events = AreByNotes core notes events
 HasEvents None notes None events = events ≡ []

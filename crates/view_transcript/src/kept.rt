@@ -1,19 +1,15 @@
 //! What is kept of a room that a script opened.
 ghost use Rattle.std.specs.Prelude.{◌≡◌, ◌∷◌, IfOk, MatchOption, None, OnOk, Some, List, map};
 ghost use Rattle.transcript.specs.declared.event.Event.{Event as EventData};
-ghost use Rattle.ws_history.specs.Notes.{IsNoted};
-ghost use Rattle.room_core.specs.Observing.{AreSeen};
 ghost use Rattle.script_play.specs.Play.{IsBlockOf};
-ghost use Rattle.service_core.specs.Replies.{name_in};
-ghost use Rattle.service_core.specs.Rooms.{Applies, room_at, steps_of};
-ghost use Rattle.view_transcript.specs.Transcripts.{AreByNotes, HasSeen, IsFresh};
+ghost use Rattle.view_transcript.specs.Transcripts.{AreByNotes, IsFresh};
 
 use room_core::RoomCore;
 use room_spec::Spec;
-use service_core::{Command, Reply, Service};
 use std::alloc::{AllocError, Global};
 use std::collections::BTreeMap;
 use std::marker::Model;
+use std::mem;
 use transcript::Event;
 use ws_history::{Points, linearize};
 
@@ -21,7 +17,8 @@ use ws_history::{Points, linearize};
 #[derive(Drop)]
 pub(crate) struct Kept {
     block: Vec<u8>,
-    points: Points,
+    /// Not while a command is executed.
+    points: Option<Points>,
     events: Option<Vec<Event>>,
 }
 
@@ -40,9 +37,10 @@ impl Kept {
         requires { IsBlockOf spec.now block.now }
         ensures { IfOk result (IsFresh spec.now) }
     {
+        let points = Points::new(alloc, spec)?;
         Ok(Kept {
             block: Vec::from_slice(alloc, block)?,
-            points: Points::new(alloc, spec)?,
+            points: Some(points),
             events: None,
         })
     }
@@ -68,23 +66,21 @@ impl Kept {
     pub(crate) fn events_in(&self, alloc: Global, room: &RoomCore) -> Result<Vec<Event>, AllocError>
         ensures { IfOk result (λ events. AreByNotes room.now self.now.notes events.items) }
     {
+        let Some(points) = &self.points else {
+            return Ok(Vec::new(alloc));
+        };
         let _shape = room.spec().shape(); // for the proof: the room is within its limits
-        let timed = linearize(alloc, room, &self.points)?;
+        let timed = linearize(alloc, room, points)?;
         let events = in_time(alloc, timed)?;
         Ok(events)
     }
 
-    /// Does a command, and notes the steps that it takes.
-    pub(crate) fn command(
-        &mut self,
-        alloc: Global,
-        service: &mut Service,
-        command: Command,
-    ) -> Reply
-        ensures applies { Applies service.old command result service.new }
-        ensures seen { HasSeen (steps_of (room_at service.old (name_in command)) command) self.old self.new }
+    /// Puts these notes in the place of those of the room's steps, which it gives.
+    pub(crate) fn swap(&mut self, points: Option<Points>) -> Option<Points>
+        ensures given { result ≡ self.old.notes }
+        ensures left { self.new ≡ record self.old { notes = points } }
     {
-        service.apply_observed(alloc, command, &mut self.points)
+        mem::replace(&mut self.points, points)
     }
 
     /// Keeps the events of the room, which is closed.

@@ -73,7 +73,7 @@ fn write_events_of(
     if let Some(events) = kept.events() {
         return write_events(output, bytes, events);
     }
-    let Some(room) = service.room(name) else {
+    let Some(room) = service.room(bytes) else {
         return Ok(());
     };
     let events = kept.events_in(alloc, room)?;

@@ -10,6 +10,7 @@ use crate::transcriber::Transcriber;
 use io_text::Text;
 use room_files::InputFault;
 use script_play::{PlayText, Played, play_script};
+use service_core::Service;
 use std::alloc::{AllocError, Global};
 
 /// Judges a script, does what it asks for if it has no fault, and writes its rooms as a transcript: the events of each in the order in
@@ -27,15 +28,19 @@ pub fn transcribe(alloc: Global, script: &[u8]) -> Result<PlayText, InputFault>
     // An allocation that failed hides no malformed line.
     ensures err { IfErr result (IsFaultOr (IsOk (script_says script.now)) (script_says script.now)) }
 {
-    let Played { performer, ending } = play_script(alloc, Transcriber::new(alloc), script)?;
-    let output = text_of(alloc, &performer)?;
+    let Played {
+        service,
+        follower,
+        ending,
+    } = play_script(alloc, Transcriber::new(alloc), script)?;
+    let output = text_of(alloc, &service, &follower)?;
     Ok(PlayText { output, ending })
 }
 
-fn text_of(alloc: Global, done: &Transcriber) -> Result<Text, AllocError>
-    ensures { IfOk result (λ text. (written : WrittenRooms) × AreWrittenFrom done.now.service done.now.rooms.entries written × (text ≡ transcript_text written)) }
+fn text_of(alloc: Global, service: &Service, done: &Transcriber) -> Result<Text, AllocError>
+    ensures { IfOk result (λ text. (written : WrittenRooms) × AreWrittenFrom service.now done.now.rooms.entries written × (text ≡ transcript_text written)) }
 {
     let mut output = Text::new(alloc);
-    write_rooms(alloc, &mut output, &done.service, &done.rooms)?;
+    write_rooms(alloc, &mut output, service, &done.rooms)?;
     Ok(output)
 }

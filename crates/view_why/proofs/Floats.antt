@@ -1,8 +1,8 @@
 -- No number in the JSON of a room has a fraction.
 use Rattle.std.proofs.Common.{◌≡◌, ◌∙◌, ◌||◌, ℕ, false, List, Option, Some, None, refl, ap}
-use Rattle.serde_json.specs.Data.{Data, null}
+use Rattle.serde_json.specs.Data.{Data}
 use Rattle.serde_json.specs.Written.{has_float}
-use Rattle.json_lines.specs.Values.{entry_data, event_data}
+use Rattle.json_lines.specs.Values.{entry_data, event_data, row_data}
 use Rattle.json_lines.proofs.CallerLemmas.{both, event_is, items_are}
 use Rattle.room_spec.specs.Rooms.{RoomSpec}
 use Rattle.transcript.specs.declared.event.Event.{Event}
@@ -18,11 +18,13 @@ use Rattle.history_checker.specs.declared.verdict.TaskVerdict.{TaskVerdict}
 use Rattle.history_checker.specs.declared.verdict.TaskVerdict.TheVariants as tasks
 use Rattle.history_checker.specs.declared.verdict.Verdict.{Verdict}
 use Rattle.history_checker.specs.declared.verdict.Verdict.TheVariants.{Run, Broken}
-use Rattle.view_why.specs.Json.{action_data, break_data, decision_data, decisions_data, excess_data, input_data, kept_data, reason_data, room_data, task_data, turn_data, written_data}
+use Rattle.view_why.specs.Json.{action_data, break_data, decision_data, decisions_data, excess_data, input_data, kept_data, reason_data, turn_data, written_data}
+use Rattle.view_why.specs.Keeping as keeping
 use Rattle.view_why.specs.Told.{ToldRoom}
 use Rattle.view_why.specs.Why.{IsRoomData, IsTaskData}
 use Rattle.view_why.specs.Words.{shown_of}
 use Rattle.view_why.specs.declared.told.Decision.{Decision}
+use Rattle.view_why.specs.declared.told.Disallowed.{Disallowed}
 use Rattle.view_why.specs.declared.told.LineBreak.{LineBreak}
 
 entry_is : (entry : Option ℕ) → has_float (entry_data entry) ≡ false
@@ -85,3 +87,13 @@ task_is told (Some (tasks.Broken line)) it is =
 pub room_is : (told : ToldRoom) (verdict : Verdict) (task : Option TaskVerdict) (it : Data) → IsRoomData told verdict task it → has_float it ≡ false
 room_is told Run task it is = ap has_float is.2 ∙ both (has_float is.0) false (task_is told task is.0 is.1) refl
 room_is told (Broken line) task it is = ap has_float is.2 ∙ both (has_float is.0) false (ap has_float is.1.is ∙ break_is is.1.event is.1.broken) refl
+
+-- ---- decisions
+
+pub moment_is : (event : Event) (one : Disallowed) → has_float (keeping.moment_data event one) ≡ false
+moment_is event one =
+    let of_event = has_float (event_data event) in
+    both (has_float (row_data one.moment.decisions.items)) (of_event || false) (items_are entry_data entry_is one.moment.decisions.items) (both of_event false (event_is event) refl)
+
+pub decisions_are : (name : List ℕ) (broken : Data) → has_float broken ≡ false → has_float (keeping.decisions_data name broken) ≡ false
+decisions_are name broken is = both (has_float (keeping.broken_data broken)) false (both (has_float broken) false is refl) refl

@@ -4,6 +4,7 @@ mod Deciding
 mod Explaining
 mod Floats
 mod Hearing
+mod KeptRooms
 mod Reasoning
 mod RoomLists
 mod RoomObjects

@@ -5,7 +5,7 @@ use Rattle.std.proofs.lemmas.List.{append-nil, append_assoc}
 use Rattle.fault_text.specs.Lines.{indented, indented_all}
 
 -- two lines behind a text, the second piece by piece
-pieces : (start first second : List ℕ) → (((start ++ indented first) ++ codes "    ") ++ second) ++ codes "\n" ≡ start ++ indented_all (first ∷ second ∷ [])
+pub pieces : (start first second : List ℕ) → (((start ++ indented first) ++ codes "    ") ++ second) ++ codes "\n" ≡ start ++ indented_all (first ∷ second ∷ [])
 pieces start first second =
     append_assoc ((start ++ indented first) ++ codes "    ") second (codes "\n")
     ∙ append_assoc (start ++ indented first) (codes "    ") (second ++ codes "\n")

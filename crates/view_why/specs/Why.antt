@@ -19,7 +19,7 @@ use Rattle.fault_text.specs.Lines.{indented_all}
 use Rattle.fault_text.specs.Refusals.{refusal_line, said_refusals}
 use Rattle.json_lines.specs.Lines.{json_line}
 use Rattle.view_why.specs.Json.{IsBreakData, IsExcessData, kept_data, room_data, task_data}
-use Rattle.view_why.specs.Told.{ToldRoom, AreDecidedBefore, IsExcess, IsLineBreak, lines_of}
+use Rattle.view_why.specs.Told.{ToldRoom, AreDecidedBefore, AreTold, IsExcess, IsLineBreak, lines_of, specs_of}
 use Rattle.view_why.specs.Words.{excess_words, reason_words}
 use Rattle.fault_text.specs.declared.refusals.RefusedBlock.{RefusedBlock}
 use Rattle.view_why.specs.declared.told.Decision.{Decision}
@@ -147,6 +147,15 @@ pub record IsExplanation (json : Bool) (input : List ℕ) (rooms : List RoomSpec
   pub output_is : output ≡ refusals_shown json input refusals ++ flat_map (explained_lines json) all
   -- in text it is, without the indented lines, what `check` writes; and its outcome is that of `check`
   pub checked : IsOutput rooms refused fed outcome (refused ++ flat_map judged_line (map (λ one. one.judged) all))
+
+-- these rooms, with what the input says of each, and these refused blocks
+pub record AreHeard (input : List ℕ) (rooms : List ToldRoom) (refusals : List RefusedBlock) : Type 0 where
+  pub setup : Setup
+  pub fed : List FedEvent
+  pub says : input_says input ≡ Ok (setup, fed)
+  pub rooms_are : specs_of rooms ≡ setup.rooms
+  pub refused_are : flat_map refusal_line refusals ≡ setup.refused
+  pub told : AreTold rooms fed
 
 abbrev pub IsExplanationIn : Bool → List ℕ → Outcome → List ℕ → Type 0
 IsExplanationIn json input outcome output =

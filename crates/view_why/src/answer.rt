@@ -6,17 +6,20 @@ ghost use Rattle.io_text.specs.Reading.{most_bytes};
 ghost use Rattle.room_files.specs.Blocks.{IsFaultOr};
 ghost use Rattle.room_files.specs.Inputs.{MayLackMemory, input_says};
 ghost use Rattle.transcript.specs.Grammar.{event_line};
+ghost use Rattle.view_why.specs.Keeping.{IsKeptExplanation};
 ghost use Rattle.view_why.specs.Told.{AreTold, IsExcess, IsLineBreak, IsTold, specs_of};
 ghost use Rattle.fault_text.specs.Lines.{indented, indented_all};
 ghost use Rattle.fault_text.specs.Refusals.{refusal_line};
-ghost use Rattle.view_why.specs.Why.{IsBecause, IsExcessSaid, IsExplanation, IsExplanationFor, IsExplanationIn, IsJsonExplanationFor, IsReasonFor, IsRoomSaid, IsSaid, IsTaskReason, refusals_shown, task_verdict_of, verdict_of};
+ghost use Rattle.view_why.specs.Why.{AreHeard, IsBecause, IsExcessSaid, IsExplanation, IsExplanationFor, IsExplanationIn, IsJsonExplanationFor, IsReasonFor, IsRoomSaid, IsSaid, IsTaskReason, refusals_shown, task_verdict_of, verdict_of};
 
 use crate::excess::write_excess_words;
+use crate::keeping::{with_kept, write_kept};
 use crate::objects::write_object;
 use crate::reasons::write_reason;
 use crate::rooms::ToldRooms;
 use crate::runs::explain_runs;
 use crate::told::{Excess, LineBreak, Told};
+use decision_tasks::DecisionTask;
 use fault_text::{Refusals, write_indented};
 use history_checker::{TaskVerdict, Verdict};
 use io_text::Text;
@@ -50,10 +53,43 @@ pub fn explain_json(alloc: Global, input: &[u8]) -> Result<Answer, InputFault>
     explain_rooms(alloc, input, true)
 }
 
+/// Judges an input, and says why, as text or as JSON; and then of each room whose events are a run that keeps its own task whether the run keeps this one.
+pub fn explain_kept(
+    alloc: Global,
+    input: &[u8],
+    json: bool,
+    task: &DecisionTask,
+) -> Result<Answer, InputFault>
+    requires { length input.now ≤ most_bytes }
+    ensures output { IfOk result (λ answer. IsKeptExplanation json task.now input.now answer.outcome answer.output) }
+    ensures err { IfErr result (IsFaultOr (MayLackMemory input.now) (input_says input.now)) }
+{
+    let (rooms, refusals) = told_rooms(alloc, input)?;
+    let Answer {
+        mut output,
+        outcome,
+    } = answer_of(alloc, input, json, &rooms, &refusals)?;
+    let kept = write_kept(alloc, &mut output, json, task, &rooms)?;
+    Ok(Answer {
+        output,
+        outcome: with_kept(outcome, kept),
+    })
+}
+
 /// The same, with the events of all rooms kept.
 fn explain_rooms(alloc: Global, input: &[u8], json: bool) -> Result<Answer, InputFault>
     requires { length input.now ≤ most_bytes }
     ensures output { IfOk result (λ answer. IsExplanationIn json input.now answer.outcome answer.output) }
+    ensures err { IfErr result (IsFaultOr (MayLackMemory input.now) (input_says input.now)) }
+{
+    let (rooms, refusals) = told_rooms(alloc, input)?;
+    Ok(answer_of(alloc, input, json, &rooms, &refusals)?)
+}
+
+/// The rooms of an input, each with its events, and the refused blocks.
+fn told_rooms(alloc: Global, input: &[u8]) -> Result<(ToldRooms, Refusals), InputFault>
+    requires { length input.now ≤ most_bytes }
+    ensures told { IfOk result (λ told. AreHeard input.now told.0 told.1) }
     ensures err { IfErr result (IsFaultOr (MayLackMemory input.now) (input_says input.now)) }
 {
     let setup = Setup::new(ToldRooms::new(alloc), Refusals::new(alloc));
@@ -64,7 +100,7 @@ fn explain_rooms(alloc: Global, input: &[u8], json: bool) -> Result<Answer, Inpu
         line,
     } = setup;
     feed_events(&mut rooms, line, transcript)?;
-    Ok(answer_of(alloc, input, json, &rooms, &refused)?)
+    Ok((rooms, refused))
 }
 
 /// Appends what is said of the rooms to what is said of the refused blocks.
@@ -248,7 +284,7 @@ fn write_excess(
 }
 
 /// Writes an event of a room as a line for people.
-fn write_event_line(
+pub(crate) fn write_event_line(
     alloc: Global,
     output: &mut Text,
     told: &Told,

@@ -4,10 +4,13 @@
 mod answer;
 mod excess;
 mod json;
+mod keeping;
+mod kept_json;
+mod kept_text;
 mod objects;
 mod reasons;
 mod rooms;
 mod runs;
 mod told;
 
-pub use answer::{explain, explain_json};
+pub use answer::{explain, explain_json, explain_kept};

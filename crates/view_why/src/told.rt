@@ -1,11 +1,14 @@
 //! A room, and what a transcript says of it.
-ghost use Rattle.std.specs.Prelude.{◌≡◌, ◌↔◌, ◌+◌, ◌<◌, ◌≤◌, ◌==◌, ◌∷◌, ◌++◌, [], ℕ, Some, IsOk, IfErr, IfOk, Err, OnOk, OnErr, length, slice_get};
+ghost use Rattle.std.specs.Prelude.{◌≡◌, ◌↔◌, ◌+◌, ◌<◌, ◌≤◌, ◌==◌, ◌∷◌, ◌++◌, [], ℕ, Some, IsOk, IfErr, IfNone, IfOk, IfSome, Err, OnOk, OnErr, length, slice_get, true};
 ghost use Rattle.std.specs.List.{list_any};
 ghost use Rattle.transcript.specs.Runs.{IsRun};
 ghost use Rattle.transcript.specs.Tasks.{KeepsOwnTask};
 ghost use Rattle.transcript.specs.declared.event.Event.TheVariants.{Decide};
+ghost use Rattle.decision_tasks.specs.Tasks.{KeepsDecisions};
+ghost use Rattle.view_why.specs.Keeping.{IsDisallowed, IsWellRoom};
 ghost use Rattle.view_why.specs.Told.{AreDecidedBefore, IsExcess, IsLineBreak, line_behind};
 
+use decision_tasks::{DecisionTask, Moment, first_broken};
 use history_checker::{Reason, check_task, why};
 use room_spec::Spec;
 use std::alloc::{AllocError, Global};
@@ -56,6 +59,15 @@ pub struct Excess {
     pub line: u64,
     /// How many different values the task allows, 1 to 16.
     pub most: u8,
+}
+
+/// The first event after which what was decided is not what a task of one's own allows.
+#[derive(Drop)]
+pub struct Disallowed {
+    /// The event's line.
+    pub line: u64,
+    /// The moment after it.
+    pub moment: Moment,
 }
 
 /// A value that was decided.
@@ -129,6 +141,27 @@ impl Told {
                 at,
                 line: self.lines[at],
                 most,
+            }),
+        }
+    }
+
+    /// Whether the events are a run that keeps the room's task, if it has one.
+    pub fn is_well(&self) -> bool
+        ensures { (result ≡ true) ↔ IsWellRoom self.now }
+    {
+        self.why().is_ok() && self.excess().is_ok()
+    }
+
+    /// The first event after which what was decided is not what the task allows, if there is one.
+    pub fn disallowed(&self, task: &DecisionTask) -> Option<Disallowed>
+        ensures none { IfNone result (KeepsDecisions task.now self.now.spec self.now.events) }
+        ensures some { IfSome result (IsDisallowed task.now self.now) }
+    {
+        match first_broken(task, &self.spec, self.events.as_slice()) {
+            None => None,
+            Some(moment) => Some(Disallowed {
+                line: self.lines[moment.at],
+                moment,
             }),
         }
     }

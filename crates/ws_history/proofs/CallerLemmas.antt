@@ -5,3 +5,4 @@ pub use Rattle.ws_history.proofs.Noted.{crash_noted, seen_noted}
 pub use Rattle.ws_history.proofs.SourceIs.{fields_run}
 pub use Rattle.ws_history.proofs.Settled.{most_are_over}
 pub use Rattle.ws_history.proofs.Spending.{spent_there}
+pub use Rattle.ws_history.proofs.RoomFields.{states_in}

@@ -26,16 +26,28 @@ pub(crate) fn is_clean(room: &RoomCore, j: usize, k: usize) -> bool
     safe_agreement::is_clean(levels_word(room, j, k), simulator_count(room))
 }
 
-/// Whether a simulator has gone on from this agreement, or may go on now, by how many writes of the
-/// process have been made, and whether a decision of it is stored.
-pub(crate) fn is_passed(room: &RoomCore, j: usize, k: usize, greatest: usize, out: bool) -> bool
-    requires process { j < processes room.now.spec }
+/// How far a process is: how many writes of it have been made, and whether a decision of it is stored.
+#[derive(Clone, Copy)]
+pub(crate) struct Progress {
+    pub(crate) process: usize,
+    pub(crate) greatest: usize,
+    pub(crate) out: bool,
+}
+
+/// Whether a simulator has gone on from the agreement of this process and round, or may go on now.
+pub(crate) fn is_passed(room: &RoomCore, progress: &Progress, k: usize) -> bool
+    requires process { progress.now.process < processes room.now.spec }
     requires round { IsRound (sizes_in room.now.spec) k }
-    requires greatest { greatest ≡ greatest_step room.now.spec (read_of room.now) j }
-    requires out { out ≡ has_out room.now.spec (read_of room.now) j }
-    ensures { result ≡ is_passed room.now.spec (read_of room.now) j k }
+    requires greatest { progress.now.greatest ≡ greatest_step room.now.spec (read_of room.now) progress.now.process }
+    requires out { progress.now.out ≡ has_out room.now.spec (read_of room.now) progress.now.process }
+    ensures { result ≡ is_passed room.now.spec (read_of room.now) progress.now.process k }
 {
-    k < greatest || (out && greatest == k) || is_clean(room, j, k)
+    let Progress {
+        process,
+        greatest,
+        out,
+    } = *progress;
+    k < greatest || (out && greatest == k) || is_clean(room, process, k)
 }
 
 /// Whether this agreement is fixed: some simulator is at level 2 in it, and no other can come there any more.

@@ -28,6 +28,13 @@ use room_spec::MAX_ROUNDS;
 use std::alloc::{AllocError, Global};
 use transcript::Event;
 
+/// What the snapshots so far have shown: how many writes of each process, and the value of the last of them.
+#[derive(Drop)]
+struct Shown {
+    counts: Row,
+    values: View,
+}
+
 /// The history of the room's processes: the snapshots that were agreed on, by the sum of their rows
 /// and then by process; before each the writes that it is the first to show, and after it the
 /// decision of its process, if that follows it; at the end the writes that none of them shows. It is
@@ -89,12 +96,13 @@ fn pass_events<S: EventSink>(
     requires range { (p : ℕ) → slice_index greatest.now p ≤ room.now.spec.rounds }
     ensures { OnOk result (TakesMore (S.has_taken sink.old) (history_of room.now.spec (read_of room.now)) (S.has_taken sink.new)) }
 {
-    let mut shown = nothing(process_count(room));
-    let mut view = shown_by(room, shown.as_slice());
+    let counts = nothing(process_count(room));
+    let values = shown_by(room, counts.as_slice());
+    let mut shown = Shown { counts, values };
     for snapshot in order {
-        push_block(sink, room, &mut shown, &mut view, greatest, snapshot)?;
+        push_block(sink, room, &mut shown, greatest, snapshot)?;
     }
-    push_writes(sink, room, &mut shown, &mut view, greatest)?;
+    push_writes(sink, room, &mut shown, greatest)?;
     Ok(())
 }
 
@@ -123,34 +131,26 @@ fn nothing(n: usize) -> Row
 }
 
 /// The writes that the snapshot is the first to show, the snapshot, and the decision after it if
-/// there is one. `shown` is what the earlier ones show, and then what it shows too; `view` has the
-/// values of these writes, and `greatest` is how many writes of each process have been made.
+/// there is one. `shown` is what the earlier ones show, and then what it shows too; `greatest` is how
+/// many writes of each process have been made.
 fn push_block<S: EventSink>(
     sink: &mut S,
     room: &RoomCore,
-    shown: &mut Row,
-    view: &mut View,
+    shown: &mut Shown,
     greatest: &[u8],
     snapshot: &Agreed,
 ) -> Result<(), AllocError>
-    requires shown { length shown.old.items ≡ processes room.now.spec }
-    requires view { view.old.items ≡ shown_by room.now.spec (read_of room.now) shown.old.items }
+    requires shown { length shown.old.counts.items ≡ processes room.now.spec }
+    requires view { shown.old.values.items ≡ shown_by room.now.spec (read_of room.now) shown.old.counts.items }
     requires greatest { greatest.now ≡ row_of room.now.spec.simulators (processes room.now.spec) (read_of room.now).step }
     requires is { IsSnapshotOf room.now snapshot.now }
-    ensures events { OnOk result (TakesMore (S.has_taken sink.old) (block_on room.now shown.old.items snapshot.now) (S.has_taken sink.new)) }
-    ensures shown { OnOk result (shown.new.items ≡ shown_with shown.old.items (row_on room.now snapshot.now)) }
-    ensures view { OnOk result (view.new.items ≡ shown_by room.now.spec (read_of room.now) shown.new.items) }
+    ensures events { OnOk result (TakesMore (S.has_taken sink.old) (block_on room.now shown.old.counts.items snapshot.now) (S.has_taken sink.new)) }
+    ensures shown { OnOk result (shown.new.counts.items ≡ shown_with shown.old.counts.items (row_on room.now snapshot.now)) }
+    ensures view { OnOk result (shown.new.values.items ≡ shown_by room.now.spec (read_of room.now) shown.new.counts.items) }
 {
     let row = row_in(room, snapshot);
-    push_writes(sink, room, shown, view, row)?;
-    push_snap(
-        sink,
-        room,
-        snapshot.process,
-        row,
-        shown.as_slice(),
-        view.as_slice(),
-    )?;
+    push_writes(sink, room, shown, row)?;
+    push_snap(sink, room, snapshot.process, row, shown)?;
     push_decision(
         sink,
         room,
@@ -170,45 +170,42 @@ fn row_in<'a>(room: &RoomCore, snapshot: &'a Agreed) -> &'a [u8]
     snapshot.row.as_slice()
 }
 
-/// The snapshot of process `p` with this row, by what is shown, and by the values of that. Rows rise, so all that is shown is
-/// what the row shows.
+/// The snapshot of process `p` with this row, by what is shown. Rows rise, so all that is shown is what the row shows.
 fn push_snap<S: EventSink>(
     sink: &mut S,
     room: &RoomCore,
     p: u8,
     row: &[u8],
-    shown: &[u8],
-    view: &[Option<u32>],
+    shown: &Shown,
 ) -> Result<(), AllocError>
     requires length { length row.now ≡ processes room.now.spec }
     requires range { (p : ℕ) → slice_index row.now p ≤ room.now.spec.rounds }
-    requires shown { length shown.now ≡ processes room.now.spec }
-    requires fits { length view.now ≤ MAX_PROCESSES }
-    requires view { view.now ≡ shown_by room.now.spec (read_of room.now) shown.now }
+    requires shown { length shown.now.counts.items ≡ processes room.now.spec }
+    requires view { shown.now.values.items ≡ shown_by room.now.spec (read_of room.now) shown.now.counts.items }
     ensures { OnOk result (TakesMore
         (S.has_taken sink.old)
         (Snap p (record { items = shown_by room.now.spec (read_of room.now) row.now }) ∷ [])
         (S.has_taken sink.new)) }
 {
-    if row == shown {
-        return sink.snap(p, view);
+    if row == shown.counts.as_slice() {
+        return sink.snap(p, shown.values.as_slice());
     }
-    sink.snap(p, view_of(room, row, shown, view).as_slice())
+    sink.snap(p, view_of(room, row, shown).as_slice())
 }
 
-/// What a row shows of each process, by the row and the values of what was shown before.
+/// What a row shows of each process, by what was shown before.
 #[cold]
 #[inline(never)]
-fn view_of(room: &RoomCore, row: &[u8], shown: &[u8], view: &[Option<u32>]) -> View
+fn view_of(room: &RoomCore, row: &[u8], shown: &Shown) -> View
     requires length { length row.now ≡ processes room.now.spec }
     requires range { (p : ℕ) → slice_index row.now p ≤ room.now.spec.rounds }
-    requires shown { length shown.now ≡ processes room.now.spec }
-    requires view { view.now ≡ shown_by room.now.spec (read_of room.now) shown.now }
+    requires shown { length shown.now.counts.items ≡ processes room.now.spec }
+    requires view { shown.now.values.items ≡ shown_by room.now.spec (read_of room.now) shown.now.counts.items }
     ensures { result.items ≡ shown_by room.now.spec (read_of room.now) row.now }
 {
     let mut all = View::new();
     for p in 0..process_count(room) {
-        all.push(value_after(room, p, row[p], shown[p], view[p]));
+        all.push(value_after(room, p, row[p], shown.counts[p], shown.values[p]));
     }
     all
 }
@@ -247,51 +244,52 @@ fn push_decision<S: EventSink>(
     Ok(())
 }
 
-/// The writes of each process after those that are shown, up to `upto`. These are shown then too; `view` has the values of
-/// what is shown.
+/// The writes of each process after those that are shown, up to `upto`. These are shown then too.
 #[inline(always)]
 fn push_writes<S: EventSink>(
     sink: &mut S,
     room: &RoomCore,
-    shown: &mut Row,
-    view: &mut View,
+    shown: &mut Shown,
     upto: &[u8],
 ) -> Result<(), AllocError>
-    requires shown { length shown.old.items ≡ processes room.now.spec }
-    requires view { view.old.items ≡ shown_by room.now.spec (read_of room.now) shown.old.items }
+    requires shown { length shown.old.counts.items ≡ processes room.now.spec }
+    requires view { shown.old.values.items ≡ shown_by room.now.spec (read_of room.now) shown.old.counts.items }
     requires upto { length upto.now ≡ processes room.now.spec }
     requires range { (p : ℕ) → slice_index upto.now p ≤ room.now.spec.rounds }
-    ensures events { OnOk result (TakesMore (S.has_taken sink.old) (writes_between room.now shown.old.items upto.now) (S.has_taken sink.new)) }
-    ensures shown { OnOk result (shown.new.items ≡ shown_with shown.old.items upto.now) }
-    ensures view { OnOk result (view.new.items ≡ shown_by room.now.spec (read_of room.now) shown.new.items) }
+    ensures events { OnOk result (TakesMore (S.has_taken sink.old) (writes_between room.now shown.old.counts.items upto.now) (S.has_taken sink.new)) }
+    ensures shown { OnOk result (shown.new.counts.items ≡ shown_with shown.old.counts.items upto.now) }
+    ensures view { OnOk result (shown.new.values.items ≡ shown_by room.now.spec (read_of room.now) shown.new.counts.items) }
 {
     for p in 0..process_count(room) {
-        if shown[p] < upto[p] {
-            view[p] = push_writes_of(sink, room, p, shown[p], upto[p], view[p])?;
-            shown[p] = upto[p];
+        if shown.counts[p] < upto[p] {
+            shown.values[p] = push_writes_of(sink, room, p, shown, upto[p])?;
+            shown.counts[p] = upto[p];
         }
     }
     Ok(())
 }
 
-/// The same of one process, and of its last value.
+/// The same of process `p`, up to its write `upto`: answers the value of the last write that is shown then.
 #[inline(always)]
 fn push_writes_of<S: EventSink>(
     sink: &mut S,
     room: &RoomCore,
     p: usize,
-    from: u8,
+    before: &Shown,
     upto: u8,
-    value: Option<u32>,
 ) -> Result<Option<u32>, AllocError>
     requires process { p < processes room.now.spec }
     requires upto { upto ≤ room.now.spec.rounds }
-    requires value { value ≡ shown room.now.spec (read_of room.now) p from }
+    requires shown { length before.now.counts.items ≡ processes room.now.spec }
+    requires view { before.now.values.items ≡ shown_by room.now.spec (read_of room.now) before.now.counts.items }
     ensures events { OnOk result (TakesMore
-        (S.has_taken sink.old) (new_writes (source_of room.now.spec (read_of room.now)) p from upto) (S.has_taken sink.new)) }
-    ensures value { IfOk result (λ last. last ≡ shown room.now.spec (read_of room.now) p (max from upto)) }
+        (S.has_taken sink.old)
+        (new_writes (source_of room.now.spec (read_of room.now)) p (slice_index before.now.counts.items p) upto)
+        (S.has_taken sink.new)) }
+    ensures value { IfOk result (λ last. last ≡ shown room.now.spec (read_of room.now) p (max (slice_index before.now.counts.items p) upto)) }
 {
-    let mut last = value;
+    let from = before.counts[p];
+    let mut last = before.values[p];
     for more in 0..upto.saturating_sub(from) {
         let v = written(room, p, usize::from(from + 1 + more));
         sink.write(number_of(room, p), v)?;

@@ -27,6 +27,13 @@ use std::alloc::{AllocError, Global};
 use std::collections::BTreeMap;
 use transcript::Event;
 
+/// A room, and the notes of its steps.
+#[derive(Clone, Copy)]
+struct Noted<'a> {
+    room: &'a RoomCore,
+    points: &'a Points,
+}
+
 /// The events of the room by the steps at which they take effect, if these are the notes of its steps: a write by the step that first
 /// counted it, a snapshot whose agreement is fixed by the step by which the proposal that was chosen was read, a decision by the step that
 /// first stored it. A step's number is that of the event of the schedule, counted from 0: atomic steps and crashes alike. In this order the
@@ -68,8 +75,9 @@ fn events_by_time(
     ensures { IfOk result (λ events. events.entries ≡ events_by_time room.now points.now) }
 {
     let mut events = BTreeMap::new(alloc);
+    let noted = Noted { room, points };
     for p in 0..process_count(room) {
-        put_process(&mut events, room, points, p)?;
+        put_process(&mut events, &noted, p)?;
     }
     Ok(events)
 }
@@ -77,41 +85,39 @@ fn events_by_time(
 /// Those of process `p`.
 fn put_process(
     events: &mut BTreeMap<u64, Event>,
-    room: &RoomCore,
-    points: &Points,
+    noted: &Noted<'_>,
     p: usize,
 ) -> Result<(), AllocError>
-    requires { p < processes room.now.spec }
-    ensures { OnOk result (events.new.entries ≡ fold (put_in room.now) events.old.entries (points_of room.now.spec (read_of room.now) points.now p)) }
+    requires { p < processes noted.now.room.now.spec }
+    ensures { OnOk result (events.new.entries ≡ fold (put_in noted.now.room.now) events.old.entries (points_of noted.now.room.now.spec (read_of noted.now.room.now) noted.now.points.now p)) }
 {
-    let greatest = greatest_step(room, p);
-    for k in 0..round_count(room) {
-        put_write(events, room, points, p, k + 1, greatest)?;
-        put_snapshot(events, room, points, p, k + 1)?;
+    let greatest = greatest_step(noted.room, p);
+    for k in 0..round_count(noted.room) {
+        put_write(events, noted, p, k + 1, greatest)?;
+        put_snapshot(events, noted, p, k + 1)?;
     }
-    put_decision(events, room, points, p)
+    put_decision(events, noted, p)
 }
 
 /// Its write in round `r`, if that was counted.
 fn put_write(
     events: &mut BTreeMap<u64, Event>,
-    room: &RoomCore,
-    points: &Points,
+    noted: &Noted<'_>,
     p: usize,
     r: usize,
     greatest: usize,
 ) -> Result<(), AllocError>
-    requires process { p < processes room.now.spec }
-    requires round { IsRound (sizes_in room.now.spec) r }
-    requires greatest { greatest ≡ greatest_step room.now.spec (read_of room.now) p }
-    ensures { OnOk result (events.new.entries ≡ fold (put_in room.now) events.old.entries (write_points room.now.spec (read_of room.now) points.now p r)) }
+    requires process { p < processes noted.now.room.now.spec }
+    requires round { IsRound (sizes_in noted.now.room.now.spec) r }
+    requires greatest { greatest ≡ greatest_step noted.now.room.now.spec (read_of noted.now.room.now) p }
+    ensures { OnOk result (events.new.entries ≡ fold (put_in noted.now.room.now) events.old.entries (write_points noted.now.room.now.spec (read_of noted.now.room.now) noted.now.points.now p r)) }
 {
     if r <= greatest {
-        let v = written(room, p, r);
+        let v = written(noted.room, p, r);
         events.insert(
-            points.counted_at(room, p, r),
+            noted.points.counted_at(noted.room, p, r),
             Event::Write {
-                p: number_of(room, p),
+                p: number_of(noted.room, p),
                 v,
             },
         )?;
@@ -122,18 +128,19 @@ fn put_write(
 /// Its snapshot in round `r`, if its agreement is fixed.
 fn put_snapshot(
     events: &mut BTreeMap<u64, Event>,
-    room: &RoomCore,
-    points: &Points,
+    noted: &Noted<'_>,
     p: usize,
     r: usize,
 ) -> Result<(), AllocError>
-    requires process { p < processes room.now.spec }
-    requires round { IsRound (sizes_in room.now.spec) r }
-    ensures { OnOk result (events.new.entries ≡ fold (put_in room.now) events.old.entries (read_points room.now.spec (read_of room.now) points.now p r)) }
+    requires process { p < processes noted.now.room.now.spec }
+    requires round { IsRound (sizes_in noted.now.room.now.spec) r }
+    ensures { OnOk result (events.new.entries ≡ fold (put_in noted.now.room.now) events.old.entries (read_points noted.now.room.now.spec (read_of noted.now.room.now) noted.now.points.now p r)) }
 {
-    if is_fixed(room, p, r) {
-        let time = points.read_at(room, shown_of(room, p, r), p, r);
-        events.insert(time, snapshot_of(room, p, r))?;
+    if is_fixed(noted.room, p, r) {
+        let time = noted
+            .points
+            .read_at(noted.room, shown_of(noted.room, p, r), p, r);
+        events.insert(time, snapshot_of(noted.room, p, r))?;
     }
     Ok(())
 }
@@ -154,18 +161,17 @@ fn snapshot_of(room: &RoomCore, p: usize, r: usize) -> Event
 /// Its decision, if one is stored.
 fn put_decision(
     events: &mut BTreeMap<u64, Event>,
-    room: &RoomCore,
-    points: &Points,
+    noted: &Noted<'_>,
     p: usize,
 ) -> Result<(), AllocError>
-    requires { p < processes room.now.spec }
-    ensures { OnOk result (events.new.entries ≡ fold (put_in room.now) events.old.entries (decision_points room.now.spec (read_of room.now) points.now p)) }
+    requires { p < processes noted.now.room.now.spec }
+    ensures { OnOk result (events.new.entries ≡ fold (put_in noted.now.room.now) events.old.entries (decision_points noted.now.room.now.spec (read_of noted.now.room.now) noted.now.points.now p)) }
 {
-    if let Some(v) = decided_in(room, p) {
+    if let Some(v) = decided_in(noted.room, p) {
         events.insert(
-            points.stored_at(p),
+            noted.points.stored_at(p),
             Event::Decide {
-                p: number_of(room, p),
+                p: number_of(noted.room, p),
                 v,
             },
         )?;

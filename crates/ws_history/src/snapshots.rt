@@ -11,7 +11,7 @@ ghost use Rattle.ws_history.specs.Placing.{agreed_at, agreed_if_passed, agreed_o
 ghost use Rattle.ws_history.specs.Readings.{read_of};
 ghost use Rattle.ws_history.specs.Sources.{source_of};
 
-use crate::agreements::{is_passed, view_at};
+use crate::agreements::{Progress, is_passed, view_at};
 use crate::reading::{Row, has_out, number_of, process_count, round_count, row_of, shape_of};
 use room_core::RoomCore;
 use room_spec::MAX_ROUNDS;
@@ -66,31 +66,32 @@ fn push_rounds(
     requires greatest { greatest ≡ greatest_step room.now.spec (read_of room.now) process }
     ensures { OnOk result (agreed.new.items ≡ agreed.old.items ++ agreed_of room.now process) }
 {
-    let out = has_out(room, process);
+    let progress = Progress {
+        process,
+        greatest,
+        out: has_out(room, process),
+    };
     for r in 0..round_count(room) {
-        push_passed(agreed, room, process, r + 1, greatest, out)?;
+        push_passed(agreed, room, &progress, r + 1)?;
     }
     Ok(())
 }
 
-/// Adds the snapshot of this process and round, if it is passed: by how many writes of the process
-/// have been made, and whether a decision of it is stored.
+/// Adds the snapshot of this process and round, if it is passed.
 fn push_passed(
     agreed: &mut Vec<Agreed>,
     room: &RoomCore,
-    process: usize,
+    progress: &Progress,
     round: usize,
-    greatest: usize,
-    out: bool,
 ) -> Result<(), AllocError>
-    requires process { process < processes room.now.spec }
+    requires process { progress.now.process < processes room.now.spec }
     requires round { IsRound (sizes_in room.now.spec) round }
-    requires greatest { greatest ≡ greatest_step room.now.spec (read_of room.now) process }
-    requires out { out ≡ has_out room.now.spec (read_of room.now) process }
-    ensures { OnOk result (agreed.new.items ≡ agreed.old.items ++ agreed_if_passed room.now process round) }
+    requires greatest { progress.now.greatest ≡ greatest_step room.now.spec (read_of room.now) progress.now.process }
+    requires out { progress.now.out ≡ has_out room.now.spec (read_of room.now) progress.now.process }
+    ensures { OnOk result (agreed.new.items ≡ agreed.old.items ++ agreed_if_passed room.now progress.now.process round) }
 {
-    if is_passed(room, process, round, greatest, out) {
-        agreed.push(snapshot_at(room, process, round))?;
+    if is_passed(room, progress, round) {
+        agreed.push(snapshot_at(room, progress.process, round))?;
     }
     Ok(())
 }

@@ -1,12 +1,15 @@
-use Rattle.std.proofs.Common.{◌++◌, ◌∷◌, ◌∙◌, [], length, sym, arith}
+use Rattle.std.proofs.Common.{◌++◌, ◌∷◌, ◌∙◌, [], ap, length, sym, arith}
 use Rattle.room_files.specs.declared.fault.TextFault.TheVariants.{NoCommand}
+use Rattle.script_play.specs.Play.{ending_with, is_lacking, is_refused}
 use Rattle.script_play.specs.Script.{script_from, script_says}
 use Rattle.script_play.proofs.Scripts.{bad_entry, bad_line, behind_none, fault_behind, good_entry, script_ends, step_script}
-use Rattle.script_play.proofs.Playing.{done-push}
+use Rattle.script_play.proofs.Followed.{followed-push, run_of}
+use Rattle.script_play.proofs.Playing.{done-push, ending-push}
 use Rattle.script_play.proofs.script.play_script.Goals as goal
 
 pub loop-entry-init : goal.loop-entry-init
-loop-entry-init g c = (length c.args.script.now, [], [], omega arith, behind_none (script_says c.args.script.now), omega arith, tt, c.new-player.ensures)
+loop-entry-init g c =
+    (length c.args.script.now, [], [], omega arith, behind_none (script_says c.args.script.now), omega arith, tt, (sym c.new-player.ensures.service, sym c.new-player.ensures.follower), c.new-player.ensures.ending)
 
 pub loop-entry-preserved : goal.loop-entry-preserved
 loop-entry-preserved g c =
@@ -18,7 +21,9 @@ loop-entry-preserved g c =
     let within = inv.5 in
     let there = good_entry number entry (sym c.in-Ok.ensures.good ∙ c.if-not-good.false) in
     let next = step_script inv.0 number c.lines-number.result rest c.in-Some.later.now entry there.0 inv.1 (script_says c.args.script.now) inv.3 c.in-Some.ensures.none c.in-Some.ensures.entry c.in-Some.ensures.rest c.in-Some.ensures.shorter c.lines-number.ensures there.1 inv.4 in
-    let plays = c.in-Ok.ensures.plays there.0 there.1 inv.2 inv.7 in (
+    let plays = c.in-Ok.ensures.plays there.0 there.1 in
+    let old = c.loop-entry.player in
+    let new = c.take.new.self in (
       next.0,
       inv.1 ++ there.0 ∷ [],
       inv.2 ++ plays.0 ∷ [],
@@ -26,7 +31,8 @@ loop-entry-preserved g c =
       next.2,
       omega (arith, few, within, c.lines-number.ensures),
       done-push inv.1 inv.2 there.0 plays.0 inv.6 plays.1,
-      plays.2,
+      followed-push g.F.Follows.follows [] c.args.follower inv.2 plays.0 old.service new.service old.follower new.follower inv.7 plays.2.leaves plays.2.is_followed,
+      plays.2.ends ∙ ap (ending_with (is_lacking plays.0) (is_refused plays.0)) inv.8 ∙ ending-push inv.2 plays.0,
     )
 
 pub returns-then-not-good-clause-err : goal.returns-then-not-good-clause-err
@@ -46,10 +52,13 @@ returns-in_default-take-clause-err g c =
 pub returns-clause-played : goal.returns-clause-played
 returns-clause-played g c =
     let inv = c.loop-entry.invariant in
+    let player = c.loop-entry.player in
     record {
       entries = inv.1;
       asked = script_ends inv.0 c.loop-entry.number c.loop-entry.rest.now inv.1 (script_says c.args.script.now) c.in_default.ensures.none inv.4;
       all = inv.2;
       each_entry = inv.6;
-      played = inv.7;
+      replies = (run_of g.F.Follows.follows c.args.follower inv.2 player.service player.follower inv.7).answers;
+      followed = inv.7;
+      ending_is = inv.8;
     }

@@ -22,8 +22,8 @@ loop-snapshot-init g c =
     let room = c.args.room.now in
     record {
       so_far = ([], takes_none (g.S.EventSink.has_taken c.args.sink.now), refl);
-      shown = c.nothing-shown.ensures ∙ ap (λ (n : ℕ). replicate {A = ℕ} n 0) c.process_count.ensures.value ∙ all_zero 0 (processes room.spec);
-      view = c.shown_by-view.ensures.value ∙ ap (shown_by room.spec (read_of room)) c.as_slice.ensures.value;
+      shown = c.nothing-counts.ensures ∙ ap (λ (n : ℕ). replicate {A = ℕ} n 0) c.process_count.ensures.value ∙ all_zero 0 (processes room.spec);
+      view = c.shown_by-values.ensures.value ∙ ap (shown_by room.spec (read_of room)) c.as_slice.ensures.value;
     }
 
 pub push_block-requires-clause-shown : goal.push_block-requires-clause-shown

@@ -14,6 +14,6 @@ invariant-loop-snapshot g l = record {
   so_far : (events : List Event) × TakesMore (g.S.EventSink.has_taken l.initial.sink) events (g.S.EventSink.has_taken l.sink)
       × (events ++ blocks (source_of l.room.spec (read_of l.room)) (processes l.room.spec) (take l.snapshot-index (source_of l.room.spec (read_of l.room)).order) (drop l.snapshot-index (source_of l.room.spec (read_of l.room)).order)
       ≡ blocks (source_of l.room.spec (read_of l.room)) (processes l.room.spec) [] (source_of l.room.spec (read_of l.room)).order);
-  shown : l.shown.items ≡ running l.room (take l.snapshot-index (source_of l.room.spec (read_of l.room)).order);
-  view : l.view.items ≡ shown_by l.room.spec (read_of l.room) l.shown.items;
+  shown : l.shown.counts.items ≡ running l.room (take l.snapshot-index (source_of l.room.spec (read_of l.room)).order);
+  view : l.shown.values.items ≡ shown_by l.room.spec (read_of l.room) l.shown.counts.items;
 }

@@ -19,7 +19,7 @@ returns-clause-events g c =
     let F = read_of room in
     let src = source_of room.spec F in
     let n = processes room.spec in
-    let shown = c.args.shown.now.items in
+    let shown = c.args.shown.now.counts.items in
     let all = row_at room.spec F s.process s.round in
     let row = c.row_in-row.ensures.value in
     let has = g.S.EventSink.has_taken in
@@ -35,7 +35,7 @@ returns-clause-events g c =
     takes_both old last new (writes ++ snap) end (takes_both old middle last writes snap one two) c.in_ok-push_decision.ensures
 
 pub returns-clause-shown : goal.returns-clause-shown
-returns-clause-shown g c = c.in_ok-push_writes.ensures.shown ∙ ap (λ (l : List ℕ). shown_with c.args.shown.now.items l) c.row_in-row.ensures.value
+returns-clause-shown g c = c.in_ok-push_writes.ensures.shown ∙ ap (λ (l : List ℕ). shown_with c.args.shown.now.counts.items l) c.row_in-row.ensures.value
 
 pub returns-clause-view : goal.returns-clause-view
 returns-clause-view g c = c.in_ok-push_writes.ensures.view
@@ -46,11 +46,6 @@ bounds-greatest-from g c =
     let below : c.args.snapshot.now.process < processes room.spec = c.requires.is.process in
     let long = ap length c.requires.greatest ∙ row_length room.spec.simulators (processes room.spec) (read_of room).step in
     omega (arith, below, long, c.from.ensures)
-
-pub push_snap-requires-clause-view : goal.push_snap-requires-clause-view
-push_snap-requires-clause-view g c =
-    let room = c.args.room.now in
-    c.as_slice-2.ensures.value ∙ c.in_ok-push_writes.ensures.view ∙ ap (shown_by room.spec (read_of room)) (sym c.as_slice.ensures.value)
 
 pub push_decision-requires-clause-greatest : goal.push_decision-requires-clause-greatest
 push_decision-requires-clause-greatest g c =

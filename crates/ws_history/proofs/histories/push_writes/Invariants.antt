@@ -8,6 +8,6 @@ use Rattle.ws_history.proofs.histories.push_writes.Given as goal
 
 abbrev pub invariant-loop-p : goal.invariant-loop-p
 invariant-loop-p g l = record {
-  so_far : TakesMore (g.S.EventSink.has_taken l.initial.sink) (by_process (λ p. new_writes (source_of l.room.spec (read_of l.room)) p (get_or l.initial.shown.items p 0) (get_or l.upto p 0)) l.p) (g.S.EventSink.has_taken l.sink);
-  shows : IsShownTo l.room l.initial.shown.items l.upto l.shown.items l.view.items l.p;
+  so_far : TakesMore (g.S.EventSink.has_taken l.initial.sink) (by_process (λ p. new_writes (source_of l.room.spec (read_of l.room)) p (get_or l.initial.shown.counts.items p 0) (get_or l.upto p 0)) l.p) (g.S.EventSink.has_taken l.sink);
+  shows : IsShownTo l.room l.initial.shown.counts.items l.upto l.shown.counts.items l.shown.values.items l.p;
 }

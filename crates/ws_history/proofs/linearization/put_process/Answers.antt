@@ -7,9 +7,9 @@ use Rattle.ws_history.proofs.linearization.put_process.Goals as goal
 
 pub loop-k-preserved : goal.loop-k-preserved
 loop-k-preserved c =
-    let room = c.args.room.now in
+    let room = c.args.noted.now.room.now in
     let read = read_of room in
-    let notes = c.args.points.now in
+    let notes = c.args.noted.now.points.now in
     let start = c.args.events.now.entries in
     let p = c.args.p in
     let k = c.loop-k.k in

@@ -15,13 +15,13 @@ use Rattle.ws_history.proofs.linearization.put_snapshot.Goals as goal
 
 pub returns-in_ok-insert : goal.returns-in_ok-insert
 returns-in_ok-insert c =
-    let room = c.args.room.now in
+    let room = c.args.noted.now.room.now in
     let old = c.args.events.now.entries in
     let p = c.args.p in
     let r = c.args.r in
-    let point : Timed = record { time = read_at room.spec c.args.points.now (shown_of room.spec (read_of room) p r) p r; point = Snaps p r } in
+    let point : Timed = record { time = read_at room.spec c.args.noted.now.points.now (shown_of room.spec (read_of room) p r) p r; point = Snaps p r } in
     let passed : is_fixed room.spec (read_of room) p r ≡ true = sym c.is_fixed.ensures ∙ c.if-is_fixed.true in
-    let time = c.read_at-time.ensures ∙ ap (λ (i : ℕ). read_at room.spec c.args.points.now i p r) c.shown_of.ensures.value in
+    let time = c.read_at-time.ensures ∙ ap (λ (i : ℕ). read_at room.spec c.args.noted.now.points.now i p r) c.shown_of.ensures.value in
     let event : c.snapshot_of.result ≡ event_of (source_of room.spec (read_of room)) (Snaps p r) =
     c.snapshot_of.ensures ∙ ap (λ (row : List (Option ℕ)). Snap p (record { items = row })) (sym (row_shown room.spec (read_of room) p r)) in
     c.in_ok-insert.ensures.entries

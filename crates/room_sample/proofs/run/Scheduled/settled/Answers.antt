@@ -6,5 +6,5 @@ use Rattle.room_sample.proofs.run.Scheduled.settled.Goals as goal
 
 pub returns-clause-states : goal.returns-clause-states
 returns-clause-states c = λ fields are.
-    c.process_states.ensures fields (subst (λ (room : RoomState). AreFieldsOf room fields) (sym c.settle.ensures.room) are)
+    c.run.ensures.states fields (subst (λ (room : RoomState). AreFieldsOf room fields) (sym c.settle.ensures.room) are)
     ∙ ap (λ (room : RoomState). states_of room.spec fields) c.settle.ensures.room

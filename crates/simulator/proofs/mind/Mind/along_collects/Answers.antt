@@ -13,15 +13,15 @@ loop-self-init g c = record { wants = c.requires.wants; more = omega arith; most
 
 pub loop-self-preserved : goal.loop-self-preserved
 loop-self-preserved g c =
-    let spec = c.args.spec.now in
+    let spec = c.args.room.now.spec.now in
     let loop = c.loop-self in
     let at = c.is_at.ensures c.loop-self-test.true in
     let row = c.take_collect-row in
     let after = c.add.new.self in
     let all : c.memory_words-words.result ≡ words_in spec = c.memory_words-words.ensures.value ∙ ap (λ (sizes : Sizes). memory_words sizes) c.shape.ensures.sizes in
     record {
-      wants = subst (λ (turn : Turn). Wants g.M.Memory.serves c.args.context.now spec row.new.memory (at_line after.line row.new.self) turn) (sym c.add.ensures.turn)
-          (subst (λ (line : Line). Wants g.M.Memory.serves c.args.context.now spec row.new.memory (at_line line row.new.self) row.result.turn) (sym c.add.ensures.line) row.ensures.wants);
+      wants = subst (λ (turn : Turn). Wants g.M.Memory.serves c.args.room.now.context.now spec row.new.memory (at_line after.line row.new.self) turn) (sym c.add.ensures.turn)
+          (subst (λ (line : Line). Wants g.M.Memory.serves c.args.room.now.context.now spec row.new.memory (at_line line row.new.self) row.result.turn) (sym c.add.ensures.line) row.ensures.wants);
       more = omega (arith, loop.invariant.more, c.add.ensures.count);
       most = λ most. omega (arith, at.0, c.add.ensures.count, row.ensures.count, all);
       continues = λ first start runs.
@@ -35,5 +35,5 @@ loop-self-preserved g c =
 pub loop-self-smaller : goal.loop-self-smaller
 loop-self-smaller g c =
     let at = c.is_at.ensures c.loop-self-test.true in
-    let all : c.memory_words-words.result ≡ words_in c.args.spec.now = c.memory_words-words.ensures.value ∙ ap (λ (sizes : Sizes). memory_words sizes) c.shape.ensures.sizes in
+    let all : c.memory_words-words.result ≡ words_in c.args.room.now.spec.now = c.memory_words-words.ensures.value ∙ ap (λ (sizes : Sizes). memory_words sizes) c.shape.ensures.sizes in
     omega (arith, at.0, c.memory_words-words.ensures.range.0, c.add.ensures.count, c.take_collect-row.ensures.count, all)

@@ -9,9 +9,9 @@ use Rattle.simulator.proofs.mind.Mind.take_shows.Given as goal
 
 abbrev pub invariant-loop-word : goal.invariant-loop-word
 invariant-loop-word g l = record {
-  on : RunsOn g.M.Memory.serves g.M.Memory.does l.context l.spec l.word l.fn.memory l.memory (at_line Show l.fn.self) (at_line Show (at_word l.word l.fn.self)) Still;
+  on : RunsOn g.M.Memory.serves g.M.Memory.does l.room.context.now l.room.spec.now l.word l.fn.memory l.memory (at_line Show l.fn.self) (at_line Show (at_word l.word l.fn.self)) Still;
   less : l.word < l.words;
-  all : l.words ≡ words_in l.spec;
+  all : l.words ≡ words_in l.room.spec.now;
 }
 
 abbrev pub decreases-loop-word : goal.decreases-loop-word

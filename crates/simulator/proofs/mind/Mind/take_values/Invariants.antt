@@ -9,10 +9,10 @@ use Rattle.simulator.proofs.mind.Mind.take_values.Given as goal
 
 abbrev pub invariant-loop-count : goal.invariant-loop-count
 invariant-loop-count g l = record {
-  wants : Wants g.M.Memory.serves l.context l.spec l.memory (at_line Values (counted_by l.count l.self)) Still;
+  wants : Wants g.M.Memory.serves l.room.context.now l.room.spec.now l.memory (at_line Values (counted_by l.count l.self)) Still;
   most : l.count ≤ l.most;
-  continues : (before : ℕ) → Continues g.M.Memory.does l.spec before l.fn.memory (at_line Values l.fn.self) Still (before + l.count) l.memory (at_line Values (counted_by l.count l.self)) Still;
-  last : AreLastWrites l.spec l.self.snapshot l.last.holders l.last.rounds;
+  continues : (before : ℕ) → Continues g.M.Memory.does l.room.spec.now before l.fn.memory (at_line Values l.fn.self) Still (before + l.count) l.memory (at_line Values (counted_by l.count l.self)) Still;
+  last : AreLastWrites l.room.spec.now l.self.snapshot l.last.holders l.last.rounds;
 }
 
 abbrev pub decreases-loop-count : goal.decreases-loop-count

@@ -19,9 +19,9 @@ use Rattle.simulator.proofs.mind.Mind.take_view.Goals as goal
 
 pub loop-word-init : goal.loop-word-init
 loop-word-init g c =
-    let all : c.memory_words-words.result ≡ words_in c.args.spec.now = c.memory_words-words.ensures.value ∙ ap (λ (sizes : Sizes). memory_words sizes) c.part-part.ensures.0 in
+    let all : c.memory_words-words.result ≡ words_in c.args.room.now.spec.now = c.memory_words-words.ensures.value ∙ ap (λ (sizes : Sizes). memory_words sizes) c.part-part.ensures.0 in
     record {
-      on = none_yet g.M.Memory.serves g.M.Memory.does c.args.context.now c.args.spec.now c.args.memory.now (GetView c.args.chosen) c.args.self.now c.requires.word c.requires.wants;
+      on = none_yet g.M.Memory.serves g.M.Memory.does c.args.room.now.context.now c.args.room.now.spec.now c.args.memory.now (GetView c.args.chosen) c.args.self.now c.requires.word c.requires.wants;
       less = omega (arith, c.memory_words-words.ensures.range.0);
       all = all;
       part = c.part-part.ensures;
@@ -32,17 +32,17 @@ pub operate-content-requires : goal.operate-content-requires
 operate-content-requires g c =
     let loop = c.loop-word in
     let wants = loop.invariant.on.wants in
-    (c.args.spec.now, at_line (GetView c.args.chosen) (at_word loop.word loop.self), wants.served, wants.is_mind, wants.operation refl, c.get_view.ensures ∙ ap (λ (i : ℕ). moves.Load (index_of (sizes_of c.part-part.result.shape) (places.View i c.part-part.result.process c.part-part.result.round loop.word))) c.from.ensures ∙ views_at c.args.spec.now loop.self c.part-part.result c.args.chosen loop.word loop.invariant.part)
+    (c.args.room.now.spec.now, at_line (GetView c.args.chosen) (at_word loop.word loop.self), wants.served, wants.is_mind, wants.operation refl, c.get_view.ensures ∙ ap (λ (i : ℕ). moves.Load (index_of (sizes_of c.part-part.result.shape) (places.View i c.part-part.result.process c.part-part.result.round loop.word))) c.from.ensures ∙ views_at c.args.room.now.spec.now loop.self c.part-part.result c.args.chosen loop.word loop.invariant.part)
 
 pub loop-word-preserved : goal.loop-word-preserved
 loop-word-preserved g c =
-    let spec = c.args.spec.now in
+    let spec = c.args.room.now.spec.now in
     let loop = c.loop-word in
     let after : MindState = c.put_word.new.self in
     let less : loop.word + 1 < words_in spec = omega (arith, c.if-word-words.false, loop.invariant.less, loop.invariant.all) in
     let same = ap (λ (m : MindState). goes_on (GetView c.args.chosen) (at_word (loop.word + 1) m)) c.put_word.ensures ∙ view_next spec loop.self loop.word c.operate-content.result c.args.chosen less in
     record {
-      on = step_then g.M.Memory.serves g.M.Memory.does g.met.M.Memory.goes_on c.args.context.now spec loop.word c.args.memory.now loop.memory c.operate-content.new.self (at_line (GetView c.args.chosen) c.args.self.now) (at_word loop.word loop.self) (at_word (loop.word + 1) after) (GetView c.args.chosen) (GetView c.args.chosen) c.get_view.result c.operate-content.result Still loop.invariant.on c.operate-content.ensures (c.get_view.ensures ∙ ap (λ (i : ℕ). moves.Load (index_of (sizes_of c.part-part.result.shape) (places.View i c.part-part.result.process c.part-part.result.round loop.word))) c.from.ensures ∙ views_at c.args.spec.now loop.self c.part-part.result c.args.chosen loop.word loop.invariant.part) (ap (λ (t : TakenOf (List ℕ)). t.mind) same) (ap (λ (t : TakenOf (List ℕ)). t.turn) same);
+      on = step_then g.M.Memory.serves g.M.Memory.does g.met.M.Memory.goes_on c.args.room.now.context.now spec loop.word c.args.memory.now loop.memory c.operate-content.new.self (at_line (GetView c.args.chosen) c.args.self.now) (at_word loop.word loop.self) (at_word (loop.word + 1) after) (GetView c.args.chosen) (GetView c.args.chosen) c.get_view.result c.operate-content.result Still loop.invariant.on c.operate-content.ensures (c.get_view.ensures ∙ ap (λ (i : ℕ). moves.Load (index_of (sizes_of c.part-part.result.shape) (places.View i c.part-part.result.process c.part-part.result.round loop.word))) c.from.ensures ∙ views_at c.args.room.now.spec.now loop.self c.part-part.result c.args.chosen loop.word loop.invariant.part) (ap (λ (t : TakenOf (List ℕ)). t.mind) same) (ap (λ (t : TakenOf (List ℕ)). t.turn) same);
       less = omega (arith, less, loop.invariant.all);
       all = loop.invariant.all;
       part = subst (λ (m : MindState). IsPartOf spec m c.part-part.result) (sym c.put_word.ensures) loop.invariant.part;
@@ -51,7 +51,7 @@ loop-word-preserved g c =
 
 pub returns-clause-wants : goal.returns-clause-wants
 returns-clause-wants g c =
-    let spec = c.args.spec.now in
+    let spec = c.args.room.now.spec.now in
     let loop = c.loop-word in
     let after : MindState = c.put_word.new.self in
     let all : loop.word + 1 ≡ words_in spec = omega (arith, c.if-word-words.true, loop.invariant.all) in
@@ -60,12 +60,12 @@ returns-clause-wants g c =
     let end = c.open_view-turn.new.self in
     let mind_is = ap (λ (line : Line). at_line line end) c.current_line.ensures ∙ c.open_view-turn.ensures.mind ∙ ap (λ (t : TakenOf (List ℕ)). t.mind) same in
     let turn_is = c.open_view-turn.ensures.turn ∙ ap (λ (t : TakenOf (List ℕ)). t.turn) same in
-    let on = step_then g.M.Memory.serves g.M.Memory.does g.met.M.Memory.goes_on c.args.context.now spec loop.word c.args.memory.now loop.memory c.operate-content.new.self (at_line (GetView c.args.chosen) c.args.self.now) (at_word loop.word loop.self) end (GetView c.args.chosen) c.current_line.result c.get_view.result c.operate-content.result c.open_view-turn.result loop.invariant.on c.operate-content.ensures (c.get_view.ensures ∙ ap (λ (i : ℕ). moves.Load (index_of (sizes_of c.part-part.result.shape) (places.View i c.part-part.result.process c.part-part.result.round loop.word))) c.from.ensures ∙ views_at c.args.spec.now loop.self c.part-part.result c.args.chosen loop.word loop.invariant.part) mind_is turn_is in
+    let on = step_then g.M.Memory.serves g.M.Memory.does g.met.M.Memory.goes_on c.args.room.now.context.now spec loop.word c.args.memory.now loop.memory c.operate-content.new.self (at_line (GetView c.args.chosen) c.args.self.now) (at_word loop.word loop.self) end (GetView c.args.chosen) c.current_line.result c.get_view.result c.operate-content.result c.open_view-turn.result loop.invariant.on c.operate-content.ensures (c.get_view.ensures ∙ ap (λ (i : ℕ). moves.Load (index_of (sizes_of c.part-part.result.shape) (places.View i c.part-part.result.process c.part-part.result.round loop.word))) c.from.ensures ∙ views_at c.args.room.now.spec.now loop.self c.part-part.result c.args.chosen loop.word loop.invariant.part) mind_is turn_is in
     on.wants
 
 pub returns-clause-continues : goal.returns-clause-continues
 returns-clause-continues g c =
-    let spec = c.args.spec.now in
+    let spec = c.args.room.now.spec.now in
     let loop = c.loop-word in
     let after : MindState = c.put_word.new.self in
     let all : loop.word + 1 ≡ words_in spec = omega (arith, c.if-word-words.true, loop.invariant.all) in
@@ -74,17 +74,17 @@ returns-clause-continues g c =
     let end = c.open_view-turn.new.self in
     let mind_is = ap (λ (line : Line). at_line line end) c.current_line.ensures ∙ c.open_view-turn.ensures.mind ∙ ap (λ (t : TakenOf (List ℕ)). t.mind) same in
     let turn_is = c.open_view-turn.ensures.turn ∙ ap (λ (t : TakenOf (List ℕ)). t.turn) same in
-    let on = step_then g.M.Memory.serves g.M.Memory.does g.met.M.Memory.goes_on c.args.context.now spec loop.word c.args.memory.now loop.memory c.operate-content.new.self (at_line (GetView c.args.chosen) c.args.self.now) (at_word loop.word loop.self) end (GetView c.args.chosen) c.current_line.result c.get_view.result c.operate-content.result c.open_view-turn.result loop.invariant.on c.operate-content.ensures (c.get_view.ensures ∙ ap (λ (i : ℕ). moves.Load (index_of (sizes_of c.part-part.result.shape) (places.View i c.part-part.result.process c.part-part.result.round loop.word))) c.from.ensures ∙ views_at c.args.spec.now loop.self c.part-part.result c.args.chosen loop.word loop.invariant.part) mind_is turn_is in
+    let on = step_then g.M.Memory.serves g.M.Memory.does g.met.M.Memory.goes_on c.args.room.now.context.now spec loop.word c.args.memory.now loop.memory c.operate-content.new.self (at_line (GetView c.args.chosen) c.args.self.now) (at_word loop.word loop.self) end (GetView c.args.chosen) c.current_line.result c.get_view.result c.operate-content.result c.open_view-turn.result loop.invariant.on c.operate-content.ensures (c.get_view.ensures ∙ ap (λ (i : ℕ). moves.Load (index_of (sizes_of c.part-part.result.shape) (places.View i c.part-part.result.process c.part-part.result.round loop.word))) c.from.ensures ∙ views_at c.args.room.now.spec.now loop.self c.part-part.result c.args.chosen loop.word loop.invariant.part) mind_is turn_is in
     subst (λ (steps : ℕ). (count : ℕ) → Continues g.M.Memory.does spec count c.args.memory.now (at_line (GetView c.args.chosen) c.args.self.now) Still (count + steps) c.operate-content.new.self (at_line c.current_line.result (end)) c.open_view-turn.result) c.if-word-words.true on.continues
 
 pub count_steps-requires-clause-steps : goal.count_steps-requires-clause-steps
 count_steps-requires-clause-steps g c =
     let loop = c.loop-word in
-    let few = fits_row c.args.spec.now (GetView c.args.chosen) loop.self loop.word loop.invariant.on.wants.is_mind in
+    let few = fits_row c.args.room.now.spec.now (GetView c.args.chosen) loop.self loop.word loop.invariant.on.wants.is_mind in
     omega (arith, few.steps_fit, c.if-word-words.true, ap (λ (m : MindState). m.steps) c.put_word.ensures)
 
 pub count_steps-requires-clause-turn_steps : goal.count_steps-requires-clause-turn_steps
 count_steps-requires-clause-turn_steps g c =
     let loop = c.loop-word in
-    let few = fits_row c.args.spec.now (GetView c.args.chosen) loop.self loop.word loop.invariant.on.wants.is_mind in
+    let few = fits_row c.args.room.now.spec.now (GetView c.args.chosen) loop.self loop.word loop.invariant.on.wants.is_mind in
     omega (arith, few.turn_steps_fit, c.if-word-words.true, ap (λ (m : MindState). m.turn_steps) c.put_word.ensures)

@@ -10,10 +10,10 @@ use Rattle.simulator.proofs.mind.Mind.take_view.Given as goal
 
 abbrev pub invariant-loop-word : goal.invariant-loop-word
 invariant-loop-word g l = record {
-  on : RunsOn g.M.Memory.serves g.M.Memory.does l.context l.spec l.word l.fn.memory l.memory (at_line (GetView l.chosen) l.fn.self) (at_line (GetView l.chosen) (at_word l.word l.self)) Still;
+  on : RunsOn g.M.Memory.serves g.M.Memory.does l.room.context.now l.room.spec.now l.word l.fn.memory l.memory (at_line (GetView l.chosen) l.fn.self) (at_line (GetView l.chosen) (at_word l.word l.self)) Still;
   less : l.word < l.words;
-  all : l.words ≡ words_in l.spec;
-  part : IsPartOf l.spec l.self l.part;
+  all : l.words ≡ words_in l.room.spec.now;
+  part : IsPartOf l.room.spec.now l.self l.part;
   none : l.self.word ≡ 0;
 }
 

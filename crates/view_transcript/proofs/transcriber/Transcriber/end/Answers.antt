@@ -20,7 +20,7 @@ returns-clause-own c =
     let before = c.args.self.now.rooms.entries in
     let after = set_value_at before c.in-Some-get_index_of.index c.end.new.self in
     let name = c.args.name.now in
-    where_ok c.end.result _ _ (λ ended. ended_here (room_at c.args.self.now.service name) (kept_at before name) (kept_at after name) c.in-Some.room.now c.in-Some-get_index_mut.kept.now c.end.new.self
+    where_ok c.end.result _ _ (λ ended. ended_here (room_at c.args.rooms.now name) (kept_at before name) (kept_at after name) c.in-Some.room.now c.in-Some-get_index_mut.kept.now c.end.new.self
     c.in-Some.ensures (sym c.in-Some-get_index_of.ensures.value ∙ sym c.in-Some-get_index_mut.ensures.value) (changed_here before after name c.end.new.self (changes c)) ended)
     c.end.ensures
 
