@@ -12,7 +12,7 @@ use report_text::{EventLines, write_room};
 use room_core::RoomCore;
 use room_files::{Answer, Setup, SpecList, outcome_if, read_all_blocks};
 use room_spec::{Name, Spec};
-use scheduler::{Gate, Gathers, OpenRooms, RunFault, open_rooms, run_opened};
+use scheduler::{Course, Gate, Gathers, OpenRooms, RunFault, open_rooms, run_opened};
 use std::alloc::{AllocError, Global};
 use std::sync::Wait;
 use std::thread;
@@ -78,27 +78,31 @@ fn run_in_parts<H: Threads + Wait + Sync, G: Gate + Sync>(
     ensures workers { OnOk result (AreWorkers workers) }
     ensures err { IfErr result (MayEndRun workers) }
 {
+    let course = Course {
+        alloc,
+        gate,
+        at_once: ROOMS_AT_ONCE,
+    };
     let rooms = rooms_in_part(left.len(), workers);
     let part = next_part(alloc, &mut left, rooms)?;
     let mut opened = open_rooms(alloc, part, workers)?;
     let mut reports = Reports::none(alloc);
     while left.len() > 0 {
         let part = next_part(alloc, &mut left, rooms)?;
-        (reports, opened) = run_and_open(rt, alloc, opened, reports, part, workers, gate)?;
+        (reports, opened) = run_and_open(rt, course, opened, reports, part, workers)?;
     }
-    let reports = run_opened(rt, alloc, opened, ROOMS_AT_ONCE, gate, reports)?;
+    let reports = run_opened(rt, course, opened, reports)?;
     Ok(reports.text)
 }
 
 /// Runs open rooms, gathers their results, and opens the rooms of the next part: at the same time, if there are several workers.
 fn run_and_open<H: Threads + Wait + Sync, G: Gate + Sync, A: Gathers + Send>(
     rt: &H,
-    alloc: Global,
+    course: Course<'_, G>,
     opened: OpenRooms,
     gathered: A,
     part: Vec<Spec>,
     workers: u8,
-    gate: &G,
 ) -> Result<(A, OpenRooms), RunFault>
     requires { AreWorkers workers }
     ensures gathered { IfOk result (λ both. AddsRoomRuns opened (A.has_gathered gathered) (A.has_gathered both.0)) }
@@ -106,15 +110,27 @@ fn run_and_open<H: Threads + Wait + Sync, G: Gate + Sync, A: Gathers + Send>(
     ensures fault { IfErr result (λ fault. fault ≢ Workers) }
 {
     if workers == 1 {
-        let all = run_opened(rt, alloc, opened, ROOMS_AT_ONCE, gate, gathered)?;
-        return Ok((all, open_rooms(alloc, part, workers)?));
+        let all = run_opened(rt, course, opened, gathered)?;
+        return Ok((all, open_rooms(course.alloc, part, workers)?));
     }
+    let Course {
+        alloc,
+        gate,
+        at_once,
+    } = course;
     let open_next = move || -> Result<OpenRooms, RunFault>
         ensures { ((result ≡ Err Workers) ↔ ((workers ≡ 0) ⊎ (16 < workers))) × IfOk result (λ next. next ≡ part.items) }
     { open_rooms(alloc, part, workers) };
     let run = move || -> Result<A, RunFault>
         ensures { IfErr result (λ fault. fault ≢ Workers) × IfOk result (λ all. AddsRoomRuns opened (A.has_gathered gathered) (A.has_gathered all)) }
-    { run_opened(rt, alloc, opened, ROOMS_AT_ONCE, gate, gathered) };
+    {
+        let course = Course {
+            alloc,
+            gate,
+            at_once,
+        };
+        run_opened(rt, course, opened, gathered)
+    };
     let (next, all) = thread::join(rt, open_next, run);
     Ok((all?, next?))
 }

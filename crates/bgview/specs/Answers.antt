@@ -1,5 +1,5 @@
 -- What is answered for an input, by what is requested.
-use Rattle.std.specs.Prelude.{◌≡◌, ⊤, ℕ, ◌<◌, ◌≤◌, Bool, ◌&&◌, ◌||◌, List, [], ◌∷◌, ◌++◌, length, Option, Some, None, is_some, Result, Ok, Err, OnOk, alloc_error, if◌then◌else◌, option_map}
+use Rattle.std.specs.Prelude.{◌≡◌, ⊤, ℕ, ◌<◌, ◌≤◌, Bool, true, false, ◌&&◌, ◌||◌, List, [], ◌∷◌, ◌++◌, length, Option, Some, None, is_some, Result, Ok, Err, OnOk, alloc_error, if◌then◌else◌, option_map}
 use Rattle.std.specs.declared.alloc.AllocError.{AllocError}
 use Rattle.io_text.specs.Reading.{most_bytes}
 use Rattle.io_text.specs.declared.fault.DeviceFault.{DeviceFault}
@@ -12,6 +12,7 @@ use Rattle.script_play.specs.Script.{script_says}
 use Rattle.live_script.specs.Sessions.{IsServed}
 use Rattle.view_grade.specs.Goals.{goal_in}
 use Rattle.view_grade.specs.Grades.{IsGraded}
+use Rattle.view_grade.specs.Keeping.{IsKeptGrade}
 use Rattle.view_grade.specs.declared.goal.Claim.{Claim}
 use Rattle.view_grade.specs.declared.goal.GoalFault.{GoalFault}
 use Rattle.file_faults.specs.Lint.{IsLintIn}
@@ -22,11 +23,17 @@ use Rattle.decision_tasks.specs.declared.task.LineFault.{LineFault}
 use Rattle.view_outcomes.specs.Values.{values_in}
 use Rattle.view_outcomes.specs.declared.search.Asked.{Asked}
 use Rattle.view_outcomes.specs.declared.search.Asked.TheVariants as asking
+use Rattle.view_outcomes.specs.declared.search.Form.{Form}
+use Rattle.view_outcomes.specs.declared.search.Form.TheVariants.{Text, Json}
 use Rattle.view_outcomes.specs.declared.search.Search.{Search}
 use Rattle.view_outcomes.specs.declared.values.ValuesFault.{ValuesFault}
 use Rattle.view_draw.specs.Drawn.{IsDrawn}
 use Rattle.view_transcript.specs.Transcripts.{IsTranscribed}
 use Rattle.view_page.specs.Pages.{IsPageFor, fault_among, fault_in}
+use Rattle.view_rooms.specs.Blocks.{IsRoomsFor}
+use Rattle.view_rooms.specs.declared.plan.RoomPlan.{RoomPlan}
+use Rattle.room_sample.specs.declared.sampling.Plan.{Plan}
+use Rattle.view_sample.specs.Keeping.{IsKeptSample}
 use Rattle.view_sample.specs.Sample.{IsSampleFor}
 use Rattle.view_trace.specs.Trace.{IsTraceIn}
 use Rattle.view_why.specs.Keeping.{IsKeptExplanation}
@@ -38,9 +45,10 @@ use Rattle.bgview.specs.declared.request.OfInput.{OfInput}
 use Rattle.bgview.specs.declared.request.OfInput.TheVariants.{Live, Whole}
 use Rattle.bgview.specs.declared.request.Request.{Request}
 use Rattle.bgview.specs.declared.request.Request.TheVariants.{Why, Trace, Draw, Page, Transcript, Grade, Sample, Outcomes, Lint}
+use Rattle.bgview.specs.declared.request.Sampling.{Sampling}
 use Rattle.bgview.specs.declared.request.Searching.{Searching}
 use Rattle.bgview.specs.declared.fault.OptionFault.{OptionFault}
-use Rattle.bgview.specs.declared.fault.OptionFault.TheVariants.{Alone, Both, Goal, Inputs, Keeps}
+use Rattle.bgview.specs.declared.fault.OptionFault.TheVariants.{Alone, Both, Goal, Inputs, Keeps, Rooms}
 use Rattle.bgview.specs.declared.fault.ViewFault.{ViewFault}
 use Rattle.bgview.specs.declared.fault.ViewFault.TheVariants.{BadInput, BadOption, Device, Incomplete}
 
@@ -54,10 +62,6 @@ IsWhole shown (Err refused) output = ⊥
 abbrev pub goal_text : Grading → List ℕ
 goal_text grading = grading.goal.now
 
--- the script is judged by the goal that the text says
-unfoldable pub IsGradeFor : Grading → List ℕ → Result Outcome AllocError → List ℕ → Type 0
-IsGradeFor grading input ending output = (claims : List Claim) × (goal_in (goal_text grading) ≡ Ok claims) × IsGraded claims grading.most input ending output
-
 -- the task of one's own by which runs of a transcript are judged, as text
 abbrev pub judged_by : Explaining → Option (List ℕ)
 judged_by explaining = option_map (λ text. text.now) explaining.keeps
@@ -68,6 +72,20 @@ IsTaskOf None None = ⊤
 IsTaskOf (Some text) (Some lines) = task_in text ≡ Ok lines
 IsTaskOf None (Some lines) = ⊥
 IsTaskOf (Some text) None = ⊥
+
+-- the task of one's own by which the histories of a script's rooms are judged, as text
+abbrev pub kept_by : Grading → Option (List ℕ)
+kept_by grading = option_map (λ text. text.now) grading.keeps
+
+-- a script is judged by a goal, and by this task if there is one
+abbrev pub IsGradedWith : Option (List Tree) → List Claim → Option ℕ → List ℕ → Result Outcome AllocError → List ℕ → Type 0
+IsGradedWith None claims most input ending output = IsGraded claims most input ending output
+IsGradedWith (Some lines) claims most input ending output = IsKeptGrade claims most lines input ending output
+
+-- the script is judged by the goal that the text says, and by the task, if one is given
+unfoldable pub IsGradeFor : Grading → List ℕ → Result Outcome AllocError → List ℕ → Type 0
+IsGradeFor grading input ending output =
+    (claims : List Claim) × (goal_in (goal_text grading) ≡ Ok claims) × (task : Option (List Tree)) × IsTaskOf (kept_by grading) task × IsGradedWith task claims grading.most input ending output
 
 -- what is said of a transcript, whose runs are judged by this task if there is one
 abbrev pub IsExplainedBy : Bool → Option (List Tree) → List ℕ → Outcome → List ℕ → Type 0
@@ -115,9 +133,39 @@ pub record IsSearchBy (searching : Searching) (search : Search) : Type 0 where
   pub search_is : IsSearchFor searching search
   pub asked : IsAskedBy (asked_alone searching) (values_text searching) (keeps_text searching) search.asked
 
+-- all runs of rooms are searched as is requested
+abbrev pub AreRunsShown : Searching → List ℕ → Result Outcome AllocError → List ℕ → Type 0
+AreRunsShown searching input ending output = (search : Search) × IsSearchBy searching search × IsWhole (IsOutcomesFor search input) ending output
+
+abbrev pub is_json : Form → Bool
+is_json Text = false
+is_json Json = true
+
+-- how all schedules of the simulators are searched
+abbrev pub room_plan : Searching → RoomPlan
+room_plan searching = record { crashes = searching.crashes; nodes = searching.nodes; brief = searching.brief; json = is_json searching.form }
+
+-- all schedules of the simulators are searched, or all runs
+abbrev pub IsSearchShownBy : Bool → Searching → List ℕ → Result Outcome AllocError → List ℕ → Type 0
+IsSearchShownBy true searching input ending output = IsWhole (IsRoomsFor (room_plan searching) input) ending output
+IsSearchShownBy false searching input ending output = AreRunsShown searching input ending output
+
 -- rooms are searched as is requested
 abbrev pub IsSearchShown : Searching → List ℕ → Result Outcome AllocError → List ℕ → Type 0
-IsSearchShown searching input ending output = (search : Search) × IsSearchBy searching search × IsWhole (IsOutcomesFor search input) ending output
+IsSearchShown searching input ending output = IsSearchShownBy searching.rooms searching input ending output
+
+-- the task of one's own by which the histories of sampled rooms are judged, as text
+abbrev pub sampled_by : Sampling → Option (List ℕ)
+sampled_by sampling = option_map (λ text. text.now) sampling.keeps
+
+-- rooms are sampled by a plan, or their histories are judged by this task if there is one
+abbrev pub IsSampledWith : Option (List Tree) → Plan → List ℕ → Result Outcome AllocError → List ℕ → Type 0
+IsSampledWith None plan input ending output = IsSampleFor plan input ending output
+IsSampledWith (Some lines) plan input ending output = IsWhole (IsKeptSample lines plan input) ending output
+
+-- rooms are sampled as is requested
+abbrev pub IsSamplingShown : Sampling → List ℕ → Result Outcome AllocError → List ℕ → Type 0
+IsSamplingShown sampling input ending output = (task : Option (List Tree)) × IsTaskOf (sampled_by sampling) task × IsSampledWith task sampling.plan input ending output
 
 -- as text, or as JSON if that is asked for
 abbrev pub IsShown : Request → List ℕ → Result Outcome AllocError → List ℕ → Type 0
@@ -127,7 +175,7 @@ IsShown (Draw style) input ending output = IsDrawn style input ending output
 IsShown Page input ending output = IsPageFor (input ∷ []) ending output
 IsShown Transcript input ending output = IsTranscribed input ending output
 IsShown (Grade grading) input ending output = IsGradeFor grading input ending output
-IsShown (Sample plan) input ending output = IsSampleFor plan input ending output
+IsShown (Sample sampling) input ending output = IsSamplingShown sampling input ending output
 IsShown (Outcomes searching) input ending output = IsSearchShown searching input ending output
 IsShown (Lint json) input ending output = IsWhole (IsLintIn json input) ending output
 
@@ -166,19 +214,44 @@ search_fault (Some values) (Some keeps) = Some Both
 abbrev pub is_more_asked : Searching → Bool
 is_more_asked searching = is_some searching.outcome && (searching.task || (is_some searching.values || is_some searching.keeps))
 
+-- something is asked for that is no outcome of a simulation, or one outcome alone, or the first ones
+abbrev pub is_more_of_rooms : Searching → Bool
+is_more_of_rooms searching = is_some searching.top || (is_some searching.outcome || (searching.task || (is_some searching.values || is_some searching.keeps)))
+
+abbrev pub rooms_fault : Searching → Option OptionFault
+rooms_fault searching = if is_more_of_rooms searching then Some Rooms else None
+
+-- the fault of the options of `outcomes` without `--rooms`
+abbrev pub runs_fault : Searching → Option OptionFault
+runs_fault searching = if is_more_asked searching then Some Alone else search_fault (values_text searching) (keeps_text searching)
+
 -- the fault of the options of `outcomes`
 abbrev pub searching_fault : Searching → Option OptionFault
-searching_fault searching = if is_more_asked searching then Some Alone else search_fault (values_text searching) (keeps_text searching)
+searching_fault searching = if searching.rooms then rooms_fault searching else runs_fault searching
 
 -- the fault of a task of one's own, if it is given
 abbrev pub keeps_fault : Option (List ℕ) → Option OptionFault
 keeps_fault None = None
 keeps_fault (Some keeps) = keeps_fault_in (task_in keeps)
 
+-- the fault of the options of `sample`: one outcome alone is asked for, and so is whether a task is kept; or that of the task
+abbrev pub sampling_fault : Sampling → Option OptionFault
+sampling_fault sampling = if is_some sampling.plan.outcome && is_some sampling.keeps then Some Alone else keeps_fault (sampled_by sampling)
+
+-- the first of two faults, if there is one
+abbrev pub either_fault : Option OptionFault → Option OptionFault → Option OptionFault
+either_fault (Some fault) other = Some fault
+either_fault None other = other
+
+-- the fault of the task of one's own of `grade`, if it is given, or else of the goal
+abbrev pub grade_fault : Option (List ℕ) → List ℕ → Option OptionFault
+grade_fault keeps goal = either_fault (keeps_fault keeps) (goal_fault_in (goal_in goal))
+
 -- the fault of a task of one's own, of the goal that a script is graded by, or of the options of `outcomes`
 abbrev pub option_fault : Request → Option OptionFault
 option_fault (Why explaining) = keeps_fault (judged_by explaining)
-option_fault (Grade grading) = goal_fault_in (goal_in (goal_text grading))
+option_fault (Grade grading) = grade_fault (kept_by grading) (goal_text grading)
+option_fault (Sample sampling) = sampling_fault sampling
 option_fault (Outcomes searching) = searching_fault searching
 option_fault _ = None
 

@@ -11,6 +11,8 @@ use Rattle.bgview.specs.declared.request.OfInput.{OfInput}
 use Rattle.bgview.specs.declared.request.OfInput.TheVariants.{Live, Whole}
 use Rattle.bgview.specs.declared.request.Request.{Request}
 use Rattle.bgview.specs.declared.request.Request.TheVariants.{Why, Trace, Draw, Page, Transcript, Grade, Sample, Outcomes, Lint}
+use Rattle.bgview.specs.declared.fault.OptionFault.{OptionFault}
+use Rattle.bgview.specs.declared.fault.OptionFault.TheVariants.{Alone, Both, Goal, Inputs, Keeps, Rooms}
 use Rattle.bgview.specs.declared.fault.ViewFault.{ViewFault}
 use Rattle.bgview.specs.declared.fault.ViewFault.TheVariants.{BadInput, BadOption, Device, Incomplete}
 
@@ -63,21 +65,30 @@ AreFileNotes file result notes = AreSaid (AreSaidOfFile file) result notes
 abbrev pub AreBothNotes : {A : Type 0} → NamedFile → NamedFile → Result A ViewFault → List ℕ → Type 0
 AreBothNotes file next result notes = AreSaid (AreBothFaults file next) result notes
 
+-- of an option's text that is not valid: the forms of a goal, if it is one
+abbrev pub AreOptionNotes : OptionFault → List ℕ → List ℕ → Type 0
+AreOptionNotes (Goal fault) old new = new ≡ goal_forms
+AreOptionNotes (Inputs fault) old new = new ≡ old
+AreOptionNotes (Keeps fault) old new = new ≡ old
+AreOptionNotes Both old new = new ≡ old
+AreOptionNotes Alone old new = new ≡ old
+AreOptionNotes Rooms old new = new ≡ old
+
 -- of a goal that is not valid
-abbrev pub AreGoalNotes : {A : Type 0} → Result A ViewFault → List ℕ → Type 0
-AreGoalNotes (Err (BadOption fault)) notes = notes ≡ goal_forms
-AreGoalNotes (Ok value) notes = ⊤
-AreGoalNotes (Err (Device fault)) notes = ⊤
-AreGoalNotes (Err Incomplete) notes = ⊤
-AreGoalNotes (Err (BadInput line fault)) notes = ⊤
+abbrev pub AreGoalNotes : {A : Type 0} → Result A ViewFault → List ℕ → List ℕ → Type 0
+AreGoalNotes (Err (BadOption fault)) old new = AreOptionNotes fault old new
+AreGoalNotes (Ok value) old new = ⊤
+AreGoalNotes (Err (Device fault)) old new = ⊤
+AreGoalNotes (Err Incomplete) old new = ⊤
+AreGoalNotes (Err (BadInput line fault)) old new = ⊤
 
 -- of a script's faults, or of a goal that is not valid
-abbrev pub AreGradeNotes : {A : Type 0} → List ℕ → Result A ViewFault → List ℕ → Type 0
-AreGradeNotes input (Err (BadOption fault)) notes = notes ≡ goal_forms
-AreGradeNotes input (Ok value) notes = notes ≡ script_faults input
-AreGradeNotes input (Err (Device fault)) notes = AreSaid {A = ⊤} (λ (said : List ℕ). said ≡ script_faults input) (Err (Device fault)) notes
-AreGradeNotes input (Err Incomplete) notes = notes ≡ script_faults input
-AreGradeNotes input (Err (BadInput line fault)) notes = notes ≡ script_faults input
+abbrev pub AreGradeNotes : {A : Type 0} → List ℕ → Result A ViewFault → List ℕ → List ℕ → Type 0
+AreGradeNotes input (Err (BadOption fault)) old new = AreOptionNotes fault old new
+AreGradeNotes input (Ok value) old new = new ≡ script_faults input
+AreGradeNotes input (Err (Device fault)) old new = AreSaid {A = ⊤} (λ (said : List ℕ). said ≡ script_faults input) (Err (Device fault)) new
+AreGradeNotes input (Err Incomplete) old new = new ≡ script_faults input
+AreGradeNotes input (Err (BadInput line fault)) old new = new ≡ script_faults input
 
 -- what `lint` warns of, which is a part of its answer as JSON
 abbrev pub AreLintNotes : {A : Type 0} → Bool → List ℕ → Result A ViewFault → List ℕ → List ℕ → Type 0
@@ -91,8 +102,8 @@ AreNotesOn (Trace json) input result old new = AreScriptNotes input result new
 AreNotesOn (Draw style) input result old new = AreScriptNotes input result new
 AreNotesOn Page input result old new = AreFileNotes input result new
 AreNotesOn Transcript input result old new = AreScriptNotes input result new
-AreNotesOn (Grade grading) input result old new = AreGradeNotes input result new
-AreNotesOn (Sample plan) input result old new = AreRoomNotes input result new
+AreNotesOn (Grade grading) input result old new = AreGradeNotes input result old new
+AreNotesOn (Sample sampling) input result old new = AreRoomNotes input result new
 AreNotesOn (Outcomes searching) input result old new = AreRoomNotes input result new
 AreNotesOn (Lint json) input result old new = AreLintNotes json input result old new
 

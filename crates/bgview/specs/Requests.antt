@@ -14,6 +14,7 @@ use Rattle.bgview.specs.declared.request.Request.{Request}
 use Rattle.bgview.specs.declared.request.Request.TheVariants.{Why, Trace, Draw, Page, Transcript, Grade, Sample, Outcomes, Lint}
 use Rattle.bgview.specs.declared.request.Requested.{Requested}
 use Rattle.bgview.specs.declared.request.Requested.TheVariants.{Faults, Input}
+use Rattle.bgview.specs.declared.request.Sampling.{Sampling}
 use Rattle.bgview.specs.declared.request.Searching.{Searching}
 
 -- the plan that the values of `sample` say
@@ -29,6 +30,11 @@ pub record IsPlanAmong (found : Option (List ℕ × List Row)) (plan : Plan) : T
   pub top : IsNumberIfAny (value_among (codes "top") found) plan.top
   pub outcome : IsNumberIfAny (value_among (codes "outcome") found) plan.outcome
 
+-- and the task by which the rooms' histories are judged
+pub record IsSamplingAmong (found : Option (List ℕ × List Row)) (sampling : Sampling) : Type 0 where
+  pub plan : IsPlanAmong found sampling.plan
+  pub keeps : option_map (λ text. text.now) sampling.keeps ≡ value_among (codes "keeps") found
+
 -- how a transcript is explained, as the values of `why` say
 pub record IsExplainingAmong (found : Option (List ℕ × List Row)) (explaining : Explaining) : Type 0 where
   pub json : explaining.json ≡ json_among found
@@ -36,6 +42,7 @@ pub record IsExplainingAmong (found : Option (List ℕ × List Row)) (explaining
 
 -- the search that the values of `outcomes` say
 pub record IsSearchAmong (found : Option (List ℕ × List Row)) (search : Searching) : Type 0 where
+  pub rooms : search.rooms ≡ is_given (value_among (codes "rooms") found)
   pub crashes : IsNumberIfAny (value_among (codes "crashes") found) search.crashes
   pub nodes : IsNumber (value_among (codes "nodes") found) 1000000 search.nodes
   pub brief : search.brief ≡ is_given (value_among (codes "brief") found)
@@ -50,6 +57,7 @@ pub record IsSearchAmong (found : Option (List ℕ × List Row)) (search : Searc
 pub record IsGradingAmong (found : Option (List ℕ × List Row)) (grading : Grading) : Type 0 where
   pub goal : grading.goal.now ≡ unwrap_or (value_among (codes "goal") found) []
   pub most : IsNumberIfAny (value_among (codes "commands") found) grading.most
+  pub keeps : option_map (λ text. text.now) grading.keeps ≡ value_among (codes "keeps") found
 
 -- how rooms are drawn, as the values of `draw` say
 pub record IsStyleAmong (found : Option (List ℕ × List Row)) (style : Style) : Type 0 where
@@ -64,7 +72,7 @@ IsRequestBy modes.Draw found (Draw style) = IsStyleAmong found style
 IsRequestBy modes.Page found Page = ⊤
 IsRequestBy modes.Transcript found Transcript = ⊤
 IsRequestBy modes.Grade found (Grade grading) = IsGradingAmong found grading
-IsRequestBy modes.Sample found (Sample plan) = IsPlanAmong found plan
+IsRequestBy modes.Sample found (Sample sampling) = IsSamplingAmong found sampling
 IsRequestBy modes.Outcomes found (Outcomes searching) = IsSearchAmong found searching
 IsRequestBy modes.Lint found (Lint json) = json ≡ json_among found
 IsRequestBy _ _ _ = ⊥

@@ -24,6 +24,8 @@ pub enum OptionFault {
     Both,
     /// One outcome alone is asked for, and so is whether tasks are kept.
     Alone,
+    /// All schedules of the simulators are searched, and something is asked for that is none of their outcomes.
+    Rooms,
 }
 
 /// Why an answer was not written whole.

@@ -18,9 +18,9 @@ impl Parts {
     /// The parts of the answer to what is requested: schedules of a sample, or nodes of a search.
     pub fn of(requested: &Requested<'_>) -> Parts {
         match requested {
-            Requested::Input(OfInput::Whole(Request::Sample(plan))) => Parts {
+            Requested::Input(OfInput::Whole(Request::Sample(sampling))) => Parts {
                 name: "schedules",
-                total: Some(u64::from(plan.schedules)),
+                total: Some(u64::from(sampling.plan.schedules)),
             },
             _ => Parts {
                 name: "nodes",

@@ -1,7 +1,7 @@
 //! What the words of the command line request.
 ghost use Rattle.clap.specs.Words.{subcommand_rows_of};
 ghost use Rattle.bgview_command_line.specs.CommandLine.{mode_among};
-ghost use Rattle.bgview.specs.Requests.{IsExplainingAmong, IsGradingAmong, IsPlanAmong, IsRequestedBy, IsSearchAmong, IsStyleAmong};
+ghost use Rattle.bgview.specs.Requests.{IsExplainingAmong, IsGradingAmong, IsPlanAmong, IsRequestedBy, IsSamplingAmong, IsSearchAmong, IsStyleAmong};
 
 use bgview_command_line::{
     Mode, is_given, line_in, number_among, number_if_any, text_among, text_if_any,
@@ -27,12 +27,24 @@ pub struct Grading<'a> {
     pub goal: &'a str,
     /// How many commands `step` and `crash` the script may have.
     pub most: Option<u32>,
+    /// A task of one's own, as text, if the histories of the script's rooms are judged by it.
+    pub keeps: Option<&'a str>,
+}
+
+/// How rooms are sampled.
+#[derive(Clone, Copy)]
+pub struct Sampling<'a> {
+    pub plan: Plan,
+    /// A task of one's own, as text, if the rooms' histories are judged by it.
+    pub keeps: Option<&'a str>,
 }
 
 /// How rooms are searched, and what is asked of each, as far as the words say it.
 #[derive(Clone, Copy)]
 pub struct Searching<'a> {
-    /// At most this number of processes stop; if it is not said, all but one.
+    /// Whether all schedules of the rooms' simulators are searched, and not the runs of their protocols.
+    pub rooms: bool,
+    /// At most this number of processes stop, or simulators crash; if it is not said, all but one.
     pub crashes: Option<u32>,
     /// How many nodes of a room are searched at most.
     pub nodes: u32,
@@ -41,7 +53,7 @@ pub struct Searching<'a> {
     pub form: Form,
     /// How many outcomes of a room are shown at most, if not all are.
     pub top: Option<u32>,
-    /// The number of the outcome of each room that is shown alone, if one is.
+    /// The number of the only outcome of each room that is shown, if one is asked for.
     pub outcome: Option<u32>,
     /// Whether the rooms' tasks alone are judged.
     pub task: bool,
@@ -66,9 +78,9 @@ pub enum Request<'a> {
     Transcript,
     /// Whether a script reaches a goal.
     Grade(Grading<'a>),
-    /// The outcomes of rooms by random schedules.
-    Sample(Plan),
-    /// The outcomes of all runs of rooms, or whether these keep a task.
+    /// The outcomes of rooms by random schedules, or whether their histories keep a task.
+    Sample(Sampling<'a>),
+    /// The outcomes of all runs of rooms, or whether these keep a task; or the outcomes of all schedules of their simulators.
     Outcomes(Searching<'a>),
     /// All faults of a file; as JSON or as text.
     Lint { json: bool },
@@ -106,7 +118,7 @@ pub fn requested_in<'a>(matches: &ArgMatches<'a>) -> Requested<'a>
         Mode::Page => Request::Page,
         Mode::Transcript => Request::Transcript,
         Mode::Grade => Request::Grade(grading_in(matches)),
-        Mode::Sample => Request::Sample(plan_in(matches)),
+        Mode::Sample => Request::Sample(sampling_in(matches)),
         Mode::Outcomes => Request::Outcomes(search_in(matches)),
         Mode::Lint => Request::Lint { json },
     };
@@ -140,6 +152,17 @@ fn grading_in<'a>(matches: &ArgMatches<'a>) -> Grading<'a>
     Grading {
         goal: text_among(matches, "goal"),
         most: number_if_any(matches, "commands"),
+        keeps: text_if_any(matches, "keeps"),
+    }
+}
+
+/// How rooms are sampled, and by which task their histories are judged, as the words say.
+fn sampling_in<'a>(matches: &ArgMatches<'a>) -> Sampling<'a>
+    ensures { IsSamplingAmong (subcommand_rows_of matches.now) result }
+{
+    Sampling {
+        plan: plan_in(matches),
+        keeps: text_if_any(matches, "keeps"),
     }
 }
 
@@ -166,6 +189,7 @@ fn search_in<'a>(matches: &ArgMatches<'a>) -> Searching<'a>
     ensures { IsSearchAmong (subcommand_rows_of matches.now) result }
 {
     Searching {
+        rooms: is_given(matches, "rooms"),
         crashes: number_if_any(matches, "crashes"),
         nodes: number_among(matches, "nodes", 1000000),
         brief: is_given(matches, "brief"),

@@ -84,6 +84,10 @@ fn say_words<E: Write>(errors: &mut Device<E>, fault: ViewFault) -> Result<(), D
             errors,
             b"--outcome can't be given together with --task, --inputs or --keeps",
         ),
+        ViewFault::BadOption(OptionFault::Rooms) => write_output(
+            errors,
+            b"--rooms can't be given together with --top, --outcome, --task, --inputs or --keeps",
+        ),
     }
 }
 

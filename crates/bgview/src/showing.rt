@@ -12,28 +12,32 @@ ghost use Rattle.decision_tasks.specs.Tasks.{task_in};
 ghost use Rattle.view_outcomes.specs.Values.{values_in};
 ghost use Rattle.view_outcomes.specs.declared.search.Search.{Search as SearchValue};
 ghost use Rattle.view_page.specs.Pages.{fault_in};
+ghost use Rattle.bgview.specs.Answers.{AreRunsShown, Ends, EndsRequest, IsExplainedBy, IsGradeFor, IsSamplingShown, IsSearchFor, IsSearchShown, IsShown, IsTaskOf, IsWhole, IsWhyShown, asked_alone, goal_fault_in, goal_text, grade_fault, is_json, is_more_asked, is_more_of_rooms, judged_by, keeps_fault, keeps_fault_in, keeps_text, kept_by, room_plan, rooms_fault, runs_fault, sampled_by, sampling_fault, search_fault, searching_fault, values_fault_in, values_text};
+ghost use Rattle.view_rooms.specs.Blocks.{IsRoomsFor};
+ghost use Rattle.view_sample.specs.Keeping.{IsKeptSample};
+ghost use Rattle.view_sample.specs.Sample.{IsSampleFor};
 ghost use Rattle.view_trace.specs.Trace.{IsTraceIn};
 ghost use Rattle.view_why.specs.Why.{IsExplanationIn};
-ghost use Rattle.bgview.specs.Answers.{Ends, EndsRequest, IsExplainedBy, IsGradeFor, IsSearchFor, IsSearchShown, IsShown, IsTaskOf, IsWhole, IsWhyShown, asked_alone, goal_fault_in, goal_text, is_more_asked, judged_by, keeps_fault, keeps_fault_in, keeps_text, search_fault, searching_fault, values_fault_in, values_text};
 ghost use Rattle.bgview.specs.Notes.{AreGoalNotes, AreGradeNotes, AreLintNotes, AreNotes, AreNotesOn, AreRoomNotes, AreSaidOfFile, AreWhyNotes};
 
 use crate::fault::{OptionFault, ViewFault};
-use crate::request::{Explaining, Grading, Request, Searching};
+use crate::request::{Explaining, Grading, Request, Sampling, Searching};
 use crate::system::{Aside, System};
 use decision_tasks::DecisionTask;
 use file_faults::{lint, lint_json, room_faults, script_faults, transcript_faults, warnings_of};
 use io_text::{DeviceFault, Text};
 use room_files::{Answer, InputFault};
-use room_sample::Threaded;
+use room_sample::{Plan, Threaded};
 use run_search::Progress;
 use script_play::PlayText;
 use std::alloc::{AllocError, Global};
 use std::thread::Threads;
 use view_draw::draw;
-use view_grade::{Goal, goal_forms, grade, read_goal};
-use view_outcomes::{Asked, Search, read_values, search_blocks};
+use view_grade::{Goal, goal_forms, grade, grade_kept, read_goal};
+use view_outcomes::{Asked, Form, Search, read_values, search_blocks};
 use view_page::{faults_of, page};
-use view_sample::sample_blocks;
+use view_rooms::{RoomPlan, search_rooms};
+use view_sample::{KeptPlan, sample_blocks, sample_kept};
 use view_trace::{trace, trace_json};
 use view_transcript::transcribe;
 use view_why::{explain, explain_json, explain_kept};
@@ -70,11 +74,7 @@ pub fn show<H: Threads + Sync, I, P: Progress>(
             Ok(transcribe(alloc, input)?)
         }
         Request::Grade(grading) => grade_or_note(alloc, grading, input, &mut aside.notes),
-        Request::Sample(plan) => {
-            aside.notes = room_faults(alloc, input)?;
-            let workers = Threaded::new(system.threads);
-            Ok(sample_blocks(&workers, alloc, input, plan, &mut aside.progress)?)
-        }
+        Request::Sample(sampling) => sample_or_fail(system, sampling, input, aside),
         Request::Outcomes(searching) => search_or_fail(alloc, searching, input, aside),
         Request::Lint { json } => linted(alloc, *json, input, &mut aside.notes),
     }
@@ -155,8 +155,16 @@ fn task_or_fail(
     let Some(text) = explaining.keeps else {
         return Ok(None);
     };
+    Ok(Some(read_task(alloc, text)?))
+}
+
+/// The task of one's own that a text says.
+fn read_task(alloc: Global, text: &str) -> Result<DecisionTask, ViewFault>
+    ensures task { IfOk result (λ task. task_in text.now ≡ Ok task) }
+    ensures err { IfErr result (Ends None (keeps_fault_in (task_in text.now))) }
+{
     match DecisionTask::read(alloc, text.as_bytes())? {
-        Ok(task) => Ok(Some(task)),
+        Ok(task) => Ok(task),
         Err(fault) => Err(ViewFault::BadOption(OptionFault::Keeps(fault))),
     }
 }
@@ -232,6 +240,92 @@ fn explained_alone(alloc: Global, json: bool, input: &[u8]) -> Result<Answer, In
     explain(alloc, input)
 }
 
+/// Samples rooms, or judges their histories, unless the options are not valid. What is said of refused blocks becomes the notes of `aside`.
+fn sample_or_fail<H: Threads + Sync, I, P: Progress>(
+    system: &System<'_, H, I>,
+    sampling: &Sampling<'_>,
+    input: &[u8],
+    aside: &mut Aside<P>,
+) -> Result<PlayText, ViewFault>
+    requires { length input.now ≤ most_bytes }
+    ensures shown { IfOk result (λ shown. IsSamplingShown sampling.now input.now shown.ending shown.output) }
+    ensures err { IfErr result (Ends None (sampling_fault sampling.now)) }
+    ensures notes { AreRoomNotes input.now result aside.new.notes }
+{
+    if sampling.plan.outcome.is_some() && sampling.keeps.is_some() {
+        return Err(ViewFault::BadOption(OptionFault::Alone));
+    }
+    let task = sampling_task(system.alloc, sampling)?;
+    sample_by(system, sampling, &task, input, aside)
+}
+
+/// The task of one's own by which the histories of sampled rooms are judged, if there is one.
+fn sampling_task(alloc: Global, sampling: &Sampling<'_>) -> Result<Option<DecisionTask>, ViewFault>
+    ensures task { IfOk result (λ task. IsTaskOf (sampled_by sampling.now) task) }
+    ensures err { IfErr result (Ends None (keeps_fault (sampled_by sampling.now))) }
+{
+    let Some(text) = sampling.keeps else {
+        return Ok(None);
+    };
+    Ok(Some(read_task(alloc, text)?))
+}
+
+/// Samples rooms, or judges their histories by this task if there is one. What is said of refused blocks becomes the notes of `aside`.
+fn sample_by<H: Threads + Sync, I, P: Progress>(
+    system: &System<'_, H, I>,
+    sampling: &Sampling<'_>,
+    task: &Option<DecisionTask>,
+    input: &[u8],
+    aside: &mut Aside<P>,
+) -> Result<PlayText, ViewFault>
+    requires input { length input.now ≤ most_bytes }
+    requires task { IsTaskOf (sampled_by sampling.now) task.now }
+    ensures shown { IfOk result (λ shown. IsSamplingShown sampling.now input.now shown.ending shown.output) }
+    ensures err { IfErr result (Ends None None) }
+    ensures notes { AreRoomNotes input.now result aside.new.notes }
+{
+    match task {
+        None => sampled(system, &sampling.plan, input, aside),
+        Some(task) => sample_kept_by(system.alloc, &sampling.plan, task, input, aside),
+    }
+}
+
+/// Samples rooms. What is said of refused blocks becomes the notes of `aside`.
+fn sampled<H: Threads + Sync, I, P: Progress>(
+    system: &System<'_, H, I>,
+    plan: &Plan,
+    input: &[u8],
+    aside: &mut Aside<P>,
+) -> Result<PlayText, ViewFault>
+    requires { length input.now ≤ most_bytes }
+    ensures shown { IfOk result (λ shown. IsSampleFor plan.now input.now shown.ending shown.output) }
+    ensures err { IfErr result (Ends None None) }
+    ensures notes { AreRoomNotes input.now result aside.new.notes }
+{
+    let alloc = system.alloc;
+    aside.notes = room_faults(alloc, input)?;
+    let workers = Threaded::new(system.threads);
+    Ok(sample_blocks(&workers, alloc, input, plan, &mut aside.progress)?)
+}
+
+/// Judges the histories of sampled rooms by this task. What is said of refused blocks becomes the notes of `aside`.
+fn sample_kept_by<P: Progress>(
+    alloc: Global,
+    plan: &Plan,
+    task: &DecisionTask,
+    input: &[u8],
+    aside: &mut Aside<P>,
+) -> Result<PlayText, ViewFault>
+    requires { length input.now ≤ most_bytes }
+    ensures shown { IfOk result (λ shown. IsWhole (IsKeptSample task.now plan.now input.now) shown.ending shown.output) }
+    ensures err { IfErr result (Ends None None) }
+    ensures notes { AreRoomNotes input.now result aside.new.notes }
+{
+    aside.notes = room_faults(alloc, input)?;
+    let judged = KeptPlan { plan, task };
+    Ok(whole(sample_kept(alloc, input, &judged, &mut aside.progress)?))
+}
+
 /// Searches rooms, unless the options are not valid. What is said of refused blocks becomes the notes of `aside`.
 fn search_or_fail<P: Progress>(
     alloc: Global,
@@ -242,6 +336,72 @@ fn search_or_fail<P: Progress>(
     requires { length input.now ≤ most_bytes }
     ensures shown { IfOk result (λ shown. IsSearchShown searching.now input.now shown.ending shown.output) }
     ensures err { IfErr result (Ends None (searching_fault searching.now)) }
+    ensures notes { AreRoomNotes input.now result aside.new.notes }
+{
+    if searching.rooms {
+        search_schedules(alloc, searching, input, aside)
+    } else {
+        search_runs(alloc, searching, input, aside)
+    }
+}
+
+/// Searches all schedules of the rooms' simulators, unless something is asked for that is none of their outcomes. What is said of refused blocks becomes the notes of
+/// `aside`.
+fn search_schedules<P: Progress>(
+    alloc: Global,
+    searching: &Searching<'_>,
+    input: &[u8],
+    aside: &mut Aside<P>,
+) -> Result<PlayText, ViewFault>
+    requires { length input.now ≤ most_bytes }
+    ensures shown { IfOk result (λ shown. IsWhole (IsRoomsFor (room_plan searching.now) input.now) shown.ending shown.output) }
+    ensures err { IfErr result (Ends None (rooms_fault searching.now)) }
+    ensures notes { AreRoomNotes input.now result aside.new.notes }
+{
+    if is_more_of_rooms(searching) {
+        return Err(ViewFault::BadOption(OptionFault::Rooms));
+    }
+    aside.notes = room_faults(alloc, input)?;
+    let plan = room_plan(searching);
+    Ok(whole(search_rooms(alloc, input, &plan, &mut aside.progress)?))
+}
+
+/// Whether something is asked for that is no outcome of a simulation, or one outcome alone, or the first ones.
+fn is_more_of_rooms(searching: &Searching<'_>) -> bool
+    ensures { result ≡ is_more_of_rooms searching.now }
+{
+    let is_judged = searching.task || searching.values.is_some() || searching.keeps.is_some();
+    searching.top.is_some() || searching.outcome.is_some() || is_judged
+}
+
+/// How all schedules of the rooms' simulators are searched.
+fn room_plan(searching: &Searching<'_>) -> RoomPlan
+    ensures { result ≡ room_plan searching.now }
+{
+    RoomPlan {
+        crashes: searching.crashes,
+        nodes: searching.nodes,
+        brief: searching.brief,
+        json: is_json(searching.form),
+    }
+}
+
+fn is_json(form: Form) -> bool
+    ensures { result ≡ is_json form }
+{
+    matches!(form, Form::Json)
+}
+
+/// Searches all runs of rooms, unless the options are not valid. What is said of refused blocks becomes the notes of `aside`.
+fn search_runs<P: Progress>(
+    alloc: Global,
+    searching: &Searching<'_>,
+    input: &[u8],
+    aside: &mut Aside<P>,
+) -> Result<PlayText, ViewFault>
+    requires { length input.now ≤ most_bytes }
+    ensures shown { IfOk result (λ shown. AreRunsShown searching.now input.now shown.ending shown.output) }
+    ensures err { IfErr result (Ends None (runs_fault searching.now)) }
     ensures notes { AreRoomNotes input.now result aside.new.notes }
 {
     if is_more_asked(searching) {
@@ -266,7 +426,7 @@ fn search_asked<P: Progress>(
     aside: &mut Aside<P>,
 ) -> Result<PlayText, ViewFault>
     requires { length input.now ≤ most_bytes }
-    ensures shown { IfOk result (λ shown. IsSearchShown searching.now input.now shown.ending shown.output) }
+    ensures shown { IfOk result (λ shown. AreRunsShown searching.now input.now shown.ending shown.output) }
     ensures err { IfErr result (Ends None (search_fault (values_text searching.now) (keeps_text searching.now))) }
     ensures notes { AreRoomNotes input.now result aside.new.notes }
 {
@@ -366,7 +526,7 @@ fn searched<P: Progress>(
     Ok(whole(search_blocks(alloc, input, search, &mut aside.progress)?))
 }
 
-/// Grades a script. What is said of all its faults, or of a goal that is not valid, becomes `notes`.
+/// Grades a script, unless a task of one's own, or the goal, is not valid. What is said of all the script's faults, or of a goal that is not valid, becomes `notes`.
 fn grade_or_note(
     alloc: Global,
     grading: &Grading<'_>,
@@ -375,35 +535,53 @@ fn grade_or_note(
 ) -> Result<PlayText, ViewFault>
     requires { length script.now ≤ most_bytes }
     ensures shown { IfOk result (λ shown. IsGradeFor grading.now script.now shown.ending shown.output) }
-    ensures err { IfErr result (Ends (fault_in (script_says script.now)) (goal_fault_in (goal_in (goal_text grading.now)))) }
-    ensures notes { AreGradeNotes script.now result notes.new }
+    ensures err { IfErr result (Ends (fault_in (script_says script.now)) (grade_fault (kept_by grading.now) (goal_text grading.now))) }
+    ensures notes { AreGradeNotes script.now result notes.old notes.new }
 {
+    let task = kept_task(alloc, grading)?;
     let goal = goal_or_note(alloc, grading.goal.as_bytes(), notes)?;
     *notes = script_faults(alloc, script)?;
-    graded(alloc, grading, &goal, script)
+    graded(alloc, grading, &goal, &task, script)
 }
 
-/// What is said of a script that is judged by this goal.
+/// The task of one's own by which the histories of a script's rooms are judged, if there is one.
+fn kept_task(alloc: Global, grading: &Grading<'_>) -> Result<Option<DecisionTask>, ViewFault>
+    ensures task { IfOk result (λ task. IsTaskOf (kept_by grading.now) task) }
+    ensures fine { IfOk result (λ task. keeps_fault (kept_by grading.now) ≡ None) }
+    ensures err { IfErr result (Ends None (keeps_fault (kept_by grading.now))) }
+{
+    let Some(text) = grading.keeps else {
+        return Ok(None);
+    };
+    Ok(Some(read_task(alloc, text)?))
+}
+
+/// What is said of a script that is judged by this goal, and by this task if there is one.
 #[tactic(auto, unfolding(crate::specs::Answers::IsGradeFor))]
 fn graded(
     alloc: Global,
     grading: &Grading<'_>,
     goal: &Goal,
+    task: &Option<DecisionTask>,
     script: &[u8],
 ) -> Result<PlayText, ViewFault>
     requires goal { goal_in (goal_text grading.now) ≡ Ok goal.now }
+    requires task { IsTaskOf (kept_by grading.now) task.now }
     requires script { length script.now ≤ most_bytes }
     ensures shown { IfOk result (λ shown. IsGradeFor grading.now script.now shown.ending shown.output) }
     ensures err { IfErr result (Ends (fault_in (script_says script.now)) None) }
 {
-    Ok(grade(alloc, goal, grading.most, script)?)
+    match task {
+        None => Ok(grade(alloc, goal, grading.most, script)?),
+        Some(task) => Ok(grade_kept(alloc, goal, grading.most, task, script)?),
+    }
 }
 
 /// The goal that a text says. What is said of one that is not valid becomes `notes`.
 fn goal_or_note(alloc: Global, text: &[u8], notes: &mut Text) -> Result<Goal, ViewFault>
     ensures goal { IfOk result (λ goal. goal_in text.now ≡ Ok goal) }
     ensures err { IfErr result (Ends None (goal_fault_in (goal_in text.now))) }
-    ensures notes { AreGoalNotes result notes.new }
+    ensures notes { AreGoalNotes result notes.old notes.new }
 {
     match read_goal(alloc, text)? {
         Ok(goal) => Ok(goal),

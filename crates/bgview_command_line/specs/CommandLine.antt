@@ -86,9 +86,9 @@ drawing_app = with_rule (with_rule (with_rule (with_rule (file_app (codes "sampl
 abbrev pub choosing_app : App
 choosing_app = with_rule (with_rule (with_rule drawing_app group_rule) top_rule) outcome_rule
 
--- the subcommand `sample`, which takes besides a number and two flags
+-- the subcommand `sample`, which takes besides a number, two flags and a text
 abbrev pub sample_app : App
-sample_app = with_rule (with_rule (with_rule choosing_app workers_rule) json_rule) brief_rule
+sample_app = with_rule (with_rule (with_rule (with_rule choosing_app workers_rule) json_rule) brief_rule) keeps_rule
 
 abbrev pub stopped_rule : Rule
 stopped_rule = number_rule (codes "crashes") 0 16
@@ -100,9 +100,13 @@ nodes_rule = number_rule (codes "nodes") 1 100000000
 abbrev pub task_rule : Rule
 task_rule = record (new_rule (codes "task")) { long = Some (codes "task"); action = Some SetTrue }
 
--- the subcommand `outcomes` as far as it says which runs are searched: a file and two numbers
+-- an option that takes no value
+abbrev pub rooms_rule : Rule
+rooms_rule = record (new_rule (codes "rooms")) { long = Some (codes "rooms"); action = Some SetTrue }
+
+-- the subcommand `outcomes` as far as it says what is searched: a file, a flag and two numbers
 abbrev pub searching_app : App
-searching_app = with_rule (with_rule (file_app (codes "outcomes")) stopped_rule) nodes_rule
+searching_app = with_rule (with_rule (with_rule (file_app (codes "outcomes")) rooms_rule) stopped_rule) nodes_rule
 
 -- and which outcomes are shown
 abbrev pub picking_app : App
@@ -127,9 +131,9 @@ goal_rule = record (new_rule (codes "goal")) { long = Some (codes "goal"); value
 abbrev pub commands_rule : Rule
 commands_rule = number_rule (codes "commands") 0 1000000
 
--- the subcommand `grade`, which takes a file, a goal and a number
+-- the subcommand `grade`, which takes a file, a goal, a number and a text
 abbrev pub grade_app : App
-grade_app = with_rule (with_rule (file_app (codes "grade")) goal_rule) commands_rule
+grade_app = with_rule (with_rule (with_rule (file_app (codes "grade")) goal_rule) commands_rule) keeps_rule
 
 -- one number at least
 abbrev pub code_rule : Rule

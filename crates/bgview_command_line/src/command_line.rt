@@ -4,7 +4,7 @@ ghost use Rattle.clap.specs.Kinds.{FailsBy};
 ghost use Rattle.clap.specs.declared.builder.command.Command.TheViews.{out-Command};
 ghost use Rattle.clap.specs.Words.{app_of, fault_of, subcommand_of, subcommand_rows_of, with_subcommand};
 ghost use Rattle.clap.specs.Walk.{rule_of};
-ghost use Rattle.bgview_command_line.specs.CommandLine.{bgview_app, brief_rule, choosing_app, commands_rule, crashes_rule, draw_app, drawing_app, fault_app, file_app, from_rule, goal_rule, grade_app, group_rule, inputs_rule, json_rule, keeps_rule, listing_app, outcome_rule, outcomes_app, page_app, picking_app, plain_app, sample_app, scale_rule, schedules_rule, searching_app, seed_rule, nodes_rule, stopped_rule, task_rule, telling_app, top_rule, turns_rule, why_app, workers_rule};
+ghost use Rattle.bgview_command_line.specs.CommandLine.{bgview_app, brief_rule, choosing_app, commands_rule, crashes_rule, draw_app, drawing_app, fault_app, file_app, from_rule, goal_rule, grade_app, group_rule, inputs_rule, json_rule, keeps_rule, listing_app, outcome_rule, outcomes_app, page_app, picking_app, plain_app, sample_app, scale_rule, schedules_rule, searching_app, rooms_rule, seed_rule, nodes_rule, stopped_rule, task_rule, telling_app, top_rule, turns_rule, why_app, workers_rule};
 
 use clap::{Arg, ArgAction, ArgMatches, Command, Error, value_parser};
 use std::alloc::{AllocError, Global};
@@ -146,7 +146,7 @@ fn transcript_command<'a>(alloc: Global) -> Result<Command<'a>, AllocError>
     )
 }
 
-/// The subcommand `sample`, which takes a file, numbers and flags.
+/// The subcommand `sample`, which takes a file, numbers, flags and a text.
 fn sample_command<'a>(alloc: Global) -> Result<Command<'a>, AllocError>
     ensures app { IfOk result (λ command. app_of command ≡ sample_app) }
     ensures local { IfOk result (λ command. (out-Command command).has_globals ≡ false) }
@@ -154,7 +154,11 @@ fn sample_command<'a>(alloc: Global) -> Result<Command<'a>, AllocError>
     let sample = choosing_command(alloc)?;
     let with_workers = sample.arg(workers_option(alloc))?;
     let with_json = with_workers.arg(json_option(alloc))?;
-    with_json.arg(brief_option(alloc, "Leaves out the scripts"))
+    let with_brief = with_json.arg(brief_option(alloc, "Leaves out the scripts"))?;
+    with_brief.arg(keeps_option(
+        alloc,
+        "Says by how many schedules one of these lines doesn't hold for each process that has decided, after each decision of the room's history, as in 'mine == min; mine == max': conditions as of `bgview outcomes --keeps`; lists no outcome",
+    ))
 }
 
 /// The subcommand `sample` with the options that say which schedules are drawn and which outcomes are shown.
@@ -183,7 +187,7 @@ fn drawing_command<'a>(alloc: Global) -> Result<Command<'a>, AllocError>
         alloc,
         "sample",
         "Runs each room of a file by random schedules, and counts the outcomes",
-        "bgview sample [--schedules N] [--crashes F] [--seed S] [--from K] [--workers W] [--group] [--top K] [--outcome K] [--json] [--brief] [FILE]",
+        "bgview sample [--schedules N] [--crashes F] [--seed S] [--from K] [--workers W] [--group] [--top K] [--outcome K] [--json] [--brief] [--keeps TASK] [FILE]",
         "The rooms; without it, standard input is read",
     )?;
     let with_schedules = sample.arg(schedules_option(alloc))?;
@@ -349,12 +353,26 @@ fn searching_command<'a>(alloc: Global) -> Result<Command<'a>, AllocError>
     let outcomes = file_command(
         alloc,
         "outcomes",
-        "Searches all runs of each room's protocol, and lists all outcomes",
-        "bgview outcomes [--crashes F] [--nodes N] [--top K] [--outcome K] [--json] [--brief] [--task] [--inputs A,B,..] [--keeps TASK] [FILE]",
+        "Searches all runs of each room's protocol, or all schedules of its simulators, and lists all outcomes",
+        "bgview outcomes [--rooms] [--crashes F] [--nodes N] [--top K] [--outcome K] [--json] [--brief] [--task] [--inputs A,B,..] [--keeps TASK] [FILE]",
         "The rooms; without it, standard input is read",
     )?;
-    let with_crashes = outcomes.arg(stopped_option(alloc))?;
+    let with_rooms = outcomes.arg(rooms_option(alloc))?;
+    let with_crashes = with_rooms.arg(stopped_option(alloc))?;
     with_crashes.arg(nodes_option(alloc))
+}
+
+/// The option `--rooms`.
+fn rooms_option<'a>(alloc: Global) -> Arg<'a>
+    ensures rule { rule_of result ≡ rooms_rule }
+    ensures local { result.global ≡ false }
+{
+    Arg::new(alloc, "rooms")
+        .long("rooms")
+        .action(ArgAction::SetTrue)
+        .help(
+            "Searches all schedules of each room's simulators, and not the runs of its protocol: each outcome has a script for `bgsim play`",
+        )
 }
 
 /// The option `--crashes F` of `outcomes`.
@@ -366,7 +384,9 @@ fn stopped_option<'a>(alloc: Global) -> Arg<'a>
         .long("crashes")
         .value_name("F")
         .value_parser(value_parser!(u8).range(0..=16))
-        .help("How many processes stop in a run at most, 0 to 16; without it, all but one")
+        .help(
+            "How many processes stop in a run at most, 0 to 16, or with --rooms how many simulators crash; without it, all but one",
+        )
 }
 
 /// The option `--nodes N`.
@@ -443,7 +463,7 @@ fn lint_command<'a>(alloc: Global) -> Result<Command<'a>, AllocError>
     )
 }
 
-/// The subcommand `grade`, which takes a file, a goal and a number.
+/// The subcommand `grade`, which takes a file, a goal, a number and a text.
 fn grade_command<'a>(alloc: Global) -> Result<Command<'a>, AllocError>
     ensures app { IfOk result (λ command. app_of command ≡ grade_app) }
     ensures local { IfOk result (λ command. (out-Command command).has_globals ≡ false) }
@@ -452,11 +472,15 @@ fn grade_command<'a>(alloc: Global) -> Result<Command<'a>, AllocError>
         alloc,
         "grade",
         "Plays a script, and says whether its last report satisfies a goal",
-        "bgview grade --goal GOAL [--commands N] [FILE]",
+        "bgview grade --goal GOAL [--commands N] [--keeps TASK] [FILE]",
         "The script; without it, standard input is read",
     )?;
     let with_goal = grade.arg(goal_option(alloc))?;
-    with_goal.arg(commands_option(alloc))
+    let with_commands = with_goal.arg(commands_option(alloc))?;
+    with_commands.arg(keeps_option(
+        alloc,
+        "Judges whether one of these lines holds for each process that has decided, after each decision of a room's history, whenever a command was done, as in 'mine == min; mine == max': conditions as of `bgview outcomes --keeps`",
+    ))
 }
 
 /// The option `--goal GOAL`.

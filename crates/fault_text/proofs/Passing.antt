@@ -10,7 +10,7 @@ use Rattle.room_spec.specs.Texts.{is_line_end, later_lines, lines_of}
 use Rattle.room_files.specs.Blocks.{refused_line, why_text}
 use Rattle.room_files.specs.declared.fault.BlockFault.{BlockFault}
 use Rattle.room_files.specs.declared.fault.BlockFault.TheVariants.{NameTaken}
-use Rattle.fault_text.specs.Lines.{behind_lines, last_of}
+use Rattle.fault_text.specs.Lines.{lines_after, last_of}
 use Rattle.fault_text.specs.Refusals.{refusal_line}
 use Rattle.fault_text.specs.declared.refusals.RefusedBlock.{RefusedBlock}
 
@@ -22,25 +22,25 @@ none_left count at all = omega (arith, all)
 
 -- ---- so many lines
 
-pub none_passed : (text : List ℕ) → text ≡ behind_lines 0 text
-unfolding behind_lines
+pub none_passed : (text : List ℕ) → text ≡ lines_after 0 text
+unfolding lines_after
 none_passed text = refl
 
-pub passed_one : (count at : ℕ) (rest text : List ℕ) → at < count → behind_lines (count - at) rest ≡ behind_lines count text → behind_lines (count - (at + 1)) (later_lines rest) ≡ behind_lines count text
-unfolding behind_lines
-passed_one count at rest text within so_far = ap (λ n. behind_lines n rest) (sym (one_left count at within)) ∙ so_far
+pub passed_one : (count at : ℕ) (rest text : List ℕ) → at < count → lines_after (count - at) rest ≡ lines_after count text → lines_after (count - (at + 1)) (later_lines rest) ≡ lines_after count text
+unfolding lines_after
+passed_one count at rest text within so_far = ap (λ n. lines_after n rest) (sym (one_left count at within)) ∙ so_far
 
-pub passed_all : (count at : ℕ) (rest text : List ℕ) → count ≤ at → behind_lines (count - at) rest ≡ behind_lines count text → rest ≡ behind_lines count text
-unfolding behind_lines
-passed_all count at rest text all so_far = ap (λ n. behind_lines n rest) (sym (none_left count at all)) ∙ so_far
+pub passed_all : (count at : ℕ) (rest text : List ℕ) → count ≤ at → lines_after (count - at) rest ≡ lines_after count text → rest ≡ lines_after count text
+unfolding lines_after
+passed_all count at rest text all so_far = ap (λ n. lines_after n rest) (sym (none_left count at all)) ∙ so_far
 
-passed_some : (some more : ℕ) (text : List ℕ) → behind_lines more (behind_lines some text) ≡ behind_lines (some + more) text
-unfolding behind_lines
-passed_some zero more text = ap (λ n. behind_lines n text) (let e : more ≡ zero + more = omega arith in e)
-passed_some (suc some) more text = passed_some some more (later_lines text) ∙ ap (λ n. behind_lines n text) (let e : suc (some + more) ≡ suc some + more = omega arith in e)
+passed_some : (some more : ℕ) (text : List ℕ) → lines_after more (lines_after some text) ≡ lines_after (some + more) text
+unfolding lines_after
+passed_some zero more text = ap (λ n. lines_after n text) (let e : more ≡ zero + more = omega arith in e)
+passed_some (suc some) more text = passed_some some more (later_lines text) ∙ ap (λ n. lines_after n text) (let e : suc (some + more) ≡ suc some + more = omega arith in e)
 
-pub passed_more : (passed lines : ℕ) (rest input : List ℕ) → passed ≤ lines → rest ≡ behind_lines passed input → behind_lines (lines - passed) rest ≡ behind_lines lines input
-passed_more passed lines rest input within is = ap (behind_lines (lines - passed)) is ∙ passed_some passed (lines - passed) input ∙ ap (λ n. behind_lines n input) (omega (arith, within))
+pub passed_more : (passed lines : ℕ) (rest input : List ℕ) → passed ≤ lines → rest ≡ lines_after passed input → lines_after (lines - passed) rest ≡ lines_after lines input
+passed_more passed lines rest input within is = ap (lines_after (lines - passed)) is ∙ passed_some passed (lines - passed) input ∙ ap (λ n. lines_after n input) (omega (arith, within))
 
 -- ---- refused blocks
 

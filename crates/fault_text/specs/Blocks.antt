@@ -42,7 +42,7 @@ first_form line =
     else if line == 5 then codes "rounds S"
     else codes "turns T"
 
--- the forms of one from 7 on, in a block with which this text begins: a task is in line 7 of version 2 alone
+-- the forms of one from 7 on, in a block with which this text begins: only version 2 has a task, in line 7
 abbrev pub later_forms : List ℕ → ℕ → List (List ℕ)
 later_forms text line =
     if (line == 7) && is_second (line_at 1 text) then map (λ form. form.now) LATER_LINES else drop 1 (map (λ form. form.now) LATER_LINES)

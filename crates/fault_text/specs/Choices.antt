@@ -13,13 +13,13 @@ use Rattle.fault_text.specs.Lines.{indented}
 use Rattle.fault_text.specs.declared.choices.TheConstants.{COMPARISON, LAST_RULE}
 
 -- a fault is at a place, and that is after this one
-abbrev pub is_fault_behind : ℕ → Option ℕ → Bool
-is_fault_behind place None = false
-is_fault_behind place (Some at) = nat_lt place at
+abbrev pub is_fault_after : ℕ → Option ℕ → Bool
+is_fault_after place None = false
+is_fault_after place (Some at) = nat_lt place at
 
 abbrev pub is_taken : ℕ → Result Protocol ParseFault → Bool
 is_taken place (Ok protocol) = true
-is_taken place (Err fault) = is_fault_behind place (place_of fault)
+is_taken place (Err fault) = is_fault_after place (place_of fault)
 
 -- a token can follow these bytes of a protocol's text: put there, after a space, it has no fault, nor has what comes before
 abbrev pub can_stand : List ℕ → List ℕ → Bool

@@ -7,4 +7,4 @@ pub mod Choices
 pub mod Blocks
 pub mod Refusals
 pub mod Spots
-pub mod Strangers
+pub mod UnknownNames

@@ -11,13 +11,13 @@ abbrev pub indented_all : List (List ℕ) → List ℕ
 indented_all notes = flat_map indented notes
 
 -- what comes after this many lines of a text
-unfoldable pub behind_lines : ℕ → List ℕ → List ℕ
-behind_lines zero text = text
-behind_lines (suc count) text = behind_lines count (later_lines text)
+unfoldable pub lines_after : ℕ → List ℕ → List ℕ
+lines_after zero text = text
+lines_after (suc count) text = lines_after count (later_lines text)
 
 -- a text from its line of this number on, counted from 1
 abbrev pub from_line : ℕ → List ℕ → List ℕ
-from_line number text = behind_lines (number - 1) text
+from_line number text = lines_after (number - 1) text
 
 -- that line
 abbrev pub line_at : ℕ → List ℕ → List ℕ

@@ -35,11 +35,11 @@ abbrev pub enough_if : List RefusedBlock → List ℕ
 enough_if [] = []
 enough_if (refusal ∷ others) = ENOUGH.now
 
--- what is said of all refused blocks of an input: the first are explained, and of each further one there is the line alone
+-- what is said of all refused blocks of an input: the first are explained, and of each further one there is only the line
 unfoldable pub said_refusals : List ℕ → List RefusedBlock → List ℕ
 said_refusals input refusals = all_said input (take most_explained refusals) ++ (enough_if (drop most_explained refusals) ++ flat_map refusal_line (drop most_explained refusals))
 
--- the same as lines for people alone, of the first
+-- the same only as lines for people, of the first
 unfoldable pub noted_refusal : List ℕ → RefusedBlock → List ℕ
 noted_refusal text refusal = codes "    " ++ said_refusal text refusal
 

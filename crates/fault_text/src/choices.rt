@@ -3,7 +3,7 @@ ghost use Rattle.std.specs.Prelude.{◌≡◌, ◌++◌, IfOk, OnOk, map};
 ghost use Rattle.std.specs.List.{flat_map};
 ghost use Rattle.protocol_lang.specs.FirstFaults.{place_of};
 ghost use Rattle.protocol_lang.specs.Reading.{reading};
-ghost use Rattle.fault_text.specs.Choices.{can_stand, choice_if, choice_words, choices, choices_note, choices_words, comparison_hint, is_fault_behind, is_whole, last_rule_hint};
+ghost use Rattle.fault_text.specs.Choices.{can_stand, choice_if, choice_words, choices, choices_note, choices_words, comparison_hint, is_fault_after, is_whole, last_rule_hint};
 
 use crate::lines::write_indented;
 use io_text::Text;
@@ -108,13 +108,13 @@ fn can_stand(alloc: Global, before: &[u8], token: &[u8]) -> Result<bool, AllocEr
     match parse_bytes(alloc, &text) {
         Ok(_) => Ok(true),
         Err(ParseFault::OutOfMemory) => Err(AllocError),
-        Err(fault) => Ok(is_fault_behind(place, fault)),
+        Err(fault) => Ok(is_fault_after(place, fault)),
     }
 }
 
 /// Whether a fault is at a place, and that is after this one.
-fn is_fault_behind(place: usize, fault: ParseFault) -> bool
-    ensures { result ≡ is_fault_behind place (place_of fault) }
+fn is_fault_after(place: usize, fault: ParseFault) -> bool
+    ensures { result ≡ is_fault_after place (place_of fault) }
 {
     match fault.place() {
         Some(at) => place < at,

@@ -1,7 +1,7 @@
 //! Lines of a text, and lines for people.
 ghost use Rattle.std.specs.Prelude.{◌≡◌, ◌++◌, ◌<◌, OnOk, drop, length, take};
 ghost use Rattle.room_spec.specs.Texts.{first_line, later_lines};
-ghost use Rattle.fault_text.specs.Lines.{behind_lines, indented, line_at};
+ghost use Rattle.fault_text.specs.Lines.{lines_after, indented, line_at};
 
 use io_text::Text;
 use room_files::split_line;
@@ -19,13 +19,13 @@ pub fn write_indented(output: &mut Text, line: &[u8]) -> Result<(), AllocError>
 pub fn line_at(text: &[u8], number: u64) -> &[u8]
     ensures { result.now ≡ line_at number text.now }
 {
-    let (line, _) = split_line(behind_lines(text, number.saturating_sub(1)));
+    let (line, _) = split_line(lines_after(text, number.saturating_sub(1)));
     line
 }
 
 /// What comes after this many lines of a text.
-pub fn behind_lines(text: &[u8], lines: u64) -> &[u8]
-    ensures { result.now ≡ behind_lines lines text.now }
+pub fn lines_after(text: &[u8], lines: u64) -> &[u8]
+    ensures { result.now ≡ lines_after lines text.now }
 {
     let mut rest = text;
     for _ in 0..lines {

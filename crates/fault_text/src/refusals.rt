@@ -1,11 +1,11 @@
 //! The blocks of an input that are refused, in words.
 ghost use Rattle.std.specs.Prelude.{◌≡◌, ◌==◌, ◌∷◌, ◌++◌, [], OnOk, drop, length, take};
 ghost use Rattle.std.specs.List.{flat_map};
-ghost use Rattle.fault_text.specs.Lines.{behind_lines};
+ghost use Rattle.fault_text.specs.Lines.{lines_after};
 ghost use Rattle.fault_text.specs.Refusals.{after_room, all_named, all_noted, all_said, enough_if, name_in, named_if, named_line, named_refusals, noted_refusal, noted_refusals, refusal_line, said_refusal, said_refusals, why_said};
 
 use crate::blocks::{write_block_fault, write_name_taken};
-use crate::lines::{behind_lines, line_at, split_text};
+use crate::lines::{line_at, lines_after, split_text};
 use history_checker::AddFault;
 use io_text::Text;
 use room_files::{BlockFault, Refuses, write_refused, write_refused_code};
@@ -92,7 +92,7 @@ impl Refusals {
         write_unexplained(output, others)
     }
 
-    /// Writes the same as lines for people alone, which end once enough are explained.
+    /// Writes the same only as lines for people, which end once enough are explained.
     #[tactic(auto, unfolding(crate::specs::Refusals::noted_refusals))]
     pub fn write_notes(
         &self,
@@ -133,7 +133,7 @@ fn write_named_all(
     let mut passed = 0;
     for refusal in refusals {
         let lines = refusal.line.saturating_sub(1);
-        rest = go_behind(input, rest, passed, lines);
+        rest = go_past(input, rest, passed, lines);
         passed = lines;
         write_named_if(output, name, rest, refusal.line)?;
     }
@@ -203,14 +203,14 @@ fn write_explained(
     let mut passed = 0;
     for refusal in refusals {
         let lines = refusal.line.saturating_sub(1);
-        rest = go_behind(input, rest, passed, lines);
+        rest = go_past(input, rest, passed, lines);
         passed = lines;
         write_refusal(alloc, output, rest, *refusal)?;
     }
     Ok(())
 }
 
-/// Writes the same as lines for people alone.
+/// Writes the same only as lines for people.
 fn write_noted_all(
     alloc: Global,
     output: &mut Text,
@@ -223,7 +223,7 @@ fn write_noted_all(
     let mut passed = 0;
     for refusal in refusals {
         let lines = refusal.line.saturating_sub(1);
-        rest = go_behind(input, rest, passed, lines);
+        rest = go_past(input, rest, passed, lines);
         passed = lines;
         write_noted(alloc, output, rest, *refusal)?;
     }
@@ -258,7 +258,7 @@ fn write_enough_if(output: &mut Text, refusals: &[RefusedBlock]) -> Result<(), A
     output.put(ENOUGH)
 }
 
-/// Writes the notes on the refused block at the front of this text, as lines for people alone.
+/// Writes the notes on the refused block at the front of this text, only as lines for people.
 pub fn write_noted(
     alloc: Global,
     output: &mut Text,
@@ -284,14 +284,14 @@ impl Refuses for Refusals {
 
 /// What comes after this many lines of an input, if `rest` comes after the first `passed`. These are not gone through again
 /// unless they are more.
-pub fn go_behind<'a>(input: &'a [u8], rest: &'a [u8], passed: u64, lines: u64) -> &'a [u8]
-    requires { rest.now ≡ behind_lines passed input.now }
-    ensures { result.now ≡ behind_lines lines input.now }
+pub fn go_past<'a>(input: &'a [u8], rest: &'a [u8], passed: u64, lines: u64) -> &'a [u8]
+    requires { rest.now ≡ lines_after passed input.now }
+    ensures { result.now ≡ lines_after lines input.now }
 {
     if lines < passed {
-        behind_lines(input, lines)
+        lines_after(input, lines)
     } else {
-        behind_lines(rest, lines - passed)
+        lines_after(rest, lines - passed)
     }
 }
 

@@ -28,7 +28,7 @@ use Rattle.fault_text.specs.Phrases.{fits_one, form_fault}
 use Rattle.fault_text.specs.Places.{place_notes}
 use Rattle.fault_text.specs.Refusals.{named_refusals, noted_refusal, why_said}
 use Rattle.fault_text.specs.Spots.{IsSaidAt, SpotParts, form_spot, refusal_spot}
-use Rattle.fault_text.specs.Strangers.{MetNames, is_met, near_room}
+use Rattle.fault_text.specs.UnknownNames.{MetNames, is_met, near_room}
 use Rattle.fault_text.specs.declared.hints.TheConstants.{NO_COMMAND, NO_EVENT}
 use Rattle.fault_text.specs.declared.phrases.TheConstants.{COMMANDS, EVENTS}
 use Rattle.fault_text.specs.declared.refusals.RefusedBlock.{RefusedBlock}
@@ -67,7 +67,7 @@ refused_headed : (script : List ℕ) (known : KnownRooms) (number : ℕ) (line n
     → IsHeaded false (refused_spot number refusal) (refused_said script known number line name refusal)
 refused_headed script known number line name None some = absurd (some refl)
 refused_headed script known number line name (Some refusals.NoRoom) some =
-    absent_headed (is_met name known.strangers) number (refusal_sentence refusals.NoRoom) line (meant script name) some
+    absent_headed (is_met name known.unknown_names) number (refusal_sentence refusals.NoRoom) line (meant script name) some
 refused_headed script known number line name (Some refusals.NameTaken) some = at_first number (refusal_sentence refusals.NameTaken) line (simulators_note (simulators_of name known.rooms))
 refused_headed script known number line name (Some refusals.NoSimulator) some = at_first number (refusal_sentence refusals.NoSimulator) line (simulators_note (simulators_of name known.rooms))
 refused_headed script known number line name (Some refusals.OutOfMemory) some = at_first number (refusal_sentence refusals.OutOfMemory) line (simulators_note (simulators_of name known.rooms))
@@ -93,9 +93,9 @@ entry_headed script known number text some =
 
 -- ---- events
 
-stranger_headed : (there : Bool) (met : Bool) (number : ℕ) (what line hints : List ℕ) → IsHeaded false (first_byte number what) (cond there [] (cond met [] (indented_all (place_notes number what [] line) ++ hints)))
-stranger_headed true met number what line hints some = absurd (some refl)
-stranger_headed false met number what line hints some = absent_headed met number what line hints some
+unknown_name_headed : (there : Bool) (met : Bool) (number : ℕ) (what line hints : List ℕ) → IsHeaded false (first_byte number what) (cond there [] (cond met [] (indented_all (place_notes number what [] line) ++ hints)))
+unknown_name_headed true met number what line hints some = absurd (some refl)
+unknown_name_headed false met number what line hints some = absent_headed met number what line hints some
 
 bad_line_headed : (of_block of_report : Bool) (number : ℕ) (what line before alone hints : List ℕ) (forms : List (List ℕ))
     → IsSaidAt (cond (of_block || of_report) (first_byte number what) (form_spot number what line forms))
@@ -104,16 +104,16 @@ bad_line_headed true of_report number what line before alone hints forms = at_fi
 bad_line_headed false true number what line before alone hints forms = at_first number what line alone
 bad_line_headed false false number what line before alone hints forms = and_more (form_spot number what line forms) (form_fault number what line forms) hints (form_said number what line forms)
 
-event_line_headed : (opened : OpenedParts) (strangers : MetNames) (number : ℕ) (line : List ℕ) (read : Result (List ℕ × Event) LineFault)
-    → IsHeaded false (event_line_spot number line read) (event_line_said opened strangers number line read)
-event_line_headed opened strangers number line (Ok read) some =
-    stranger_headed (has_room read.0 opened.rooms) (is_met read.0 strangers) number no_room_sentence line (near_room opened.input read.0 ++ named_refusals opened.input read.0 opened.refused) some
-event_line_headed opened strangers number line (Err fault) some =
+event_line_headed : (opened : OpenedParts) (unknown_names : MetNames) (number : ℕ) (line : List ℕ) (read : Result (List ℕ × Event) LineFault)
+    → IsHeaded false (event_line_spot number line read) (event_line_said opened unknown_names number line read)
+event_line_headed opened unknown_names number line (Ok read) some =
+    unknown_name_headed (has_room read.0 opened.rooms) (is_met read.0 unknown_names) number no_room_sentence line (near_room opened.input read.0 ++ named_refusals opened.input read.0 opened.refused) some
+event_line_headed opened unknown_names number line (Err fault) some =
     bad_line_headed (fits_one line (map (λ form. form.now) BLOCK_LINES)) (fits_one line (map (λ form. form.now) REPORT_LINES)) number (sentence_of fault) line
     (indented BLOCKS_BEFORE.now) (indented EVENTS_ALONE.now) (hint (advice (map (λ entry. entry.now) NO_EVENT) line)) (map (λ form. form.now) EVENTS)
 
-pub event_headed : (opened : OpenedParts) (strangers : MetNames) (number : ℕ) (text : List ℕ) → IsHeaded false (event_spot number text) (event_said opened strangers number text)
-event_headed opened strangers number text some = event_line_headed opened strangers number (first_line text) (line_in (first_line text)) some
+pub event_headed : (opened : OpenedParts) (unknown_names : MetNames) (number : ℕ) (text : List ℕ) → IsHeaded false (event_spot number text) (event_said opened unknown_names number text)
+event_headed opened unknown_names number text some = event_line_headed opened unknown_names number (first_line text) (line_in (first_line text)) some
 
 -- ---- blocks, and what a transcript lacks
 

@@ -16,7 +16,7 @@ use Rattle.transcript.specs.declared.fault.LineFault.{LineFault}
 use Rattle.history_checker.specs.Verdicts.{FedEvent, has_room}
 use Rattle.room_files.specs.Blocks.{Setup, block_extent}
 use Rattle.room_files.specs.Faults.{FaultAt, text_sentence}
-use Rattle.room_files.specs.Inputs.{blocks_in, events_behind, fed_from, input_says, of_known_room, then_fed, with_fed}
+use Rattle.room_files.specs.Inputs.{blocks_in, later_events, fed_from, input_says, of_known_room, then_fed, with_fed}
 use Rattle.room_files.specs.Lines.{lines_in, text_lines}
 use Rattle.room_files.specs.declared.fault.TextFault.TheVariants.{NoRoom}
 use Rattle.fault_text.specs.Hints.{advice, hint}
@@ -24,12 +24,12 @@ use Rattle.fault_text.specs.Lines.{indented}
 use Rattle.fault_text.specs.Places.{heading}
 use Rattle.fault_text.specs.Phrases.{fits_one, form_fault}
 use Rattle.fault_text.specs.Refusals.{noted_refusals}
-use Rattle.fault_text.specs.Strangers.{MetNames}
+use Rattle.fault_text.specs.UnknownNames.{MetNames}
 use Rattle.fault_text.specs.declared.hints.TheConstants.{NO_EVENT}
 use Rattle.fault_text.specs.declared.phrases.TheConstants.{EVENTS}
 use Rattle.fault_text.specs.declared.refusals.TheConstants.{MOST_EXPLAINED}
-use Rattle.file_faults.specs.Events.{OpenedParts, bad_line_said, event_faults, event_lines, line_said, met_if, misplaced_said, stranger_said, strangers_after}
-use Rattle.file_faults.specs.Events.{events_behind as events_after, met_unless, next_event}
+use Rattle.file_faults.specs.Events.{OpenedParts, bad_line_said, event_faults, event_lines, line_said, met_if, misplaced_said, unknown_name_said, unknown_names_after}
+use Rattle.file_faults.specs.Events.{later_events as events_after, met_unless, next_event}
 use Rattle.file_faults.specs.Files.{AreFaultsAfter, AreTranscriptFaults, IsWhole}
 use Rattle.file_faults.specs.declared.events.TheConstants.{BLOCK_LINES, BLOCKS_BEFORE, EVENTS_ALONE, REPORT_LINES}
 use Rattle.file_faults.specs.declared.files.TheConstants.{NO_EVENTS}
@@ -80,7 +80,7 @@ fine_line : (opened : OpenedParts) (number place : ℕ) (line : List ℕ) (read 
 fine_line opened number place line (Err fault) is = absurd (bad_line number line fault is)
 fine_line opened number place line (Ok read) is = by (has_room read.0 opened.rooms) is
   where
-    by : (b : Bool) → cond b [] (stranger_said opened none_met number line read.0) ≡ [] → IsOk {T = FedEvent} {E = FaultAt} (cond b (Ok (record { name = read.0; event = read.1; line = place })) (Err (place, NoRoom)))
+    by : (b : Bool) → cond b [] (unknown_name_said opened none_met number line read.0) ≡ [] → IsOk {T = FedEvent} {E = FaultAt} (cond b (Ok (record { name = read.0; event = read.1; line = place })) (Err (place, NoRoom)))
     by true none = refl
     by false none = absurd (omega (arith, ap length none))
 
@@ -88,7 +88,7 @@ line_fine : (opened : OpenedParts) (number place : ℕ) (line : List ℕ) (read 
 line_fine opened number place line (Err fault) is = absurd cc
 line_fine opened number place line (Ok read) is = by (has_room read.0 opened.rooms) is
   where
-    by : (b : Bool) → IsOk {T = FedEvent} {E = FaultAt} (cond b (Ok (record { name = read.0; event = read.1; line = place })) (Err (place, NoRoom))) → cond b [] (stranger_said opened none_met number line read.0) ≡ []
+    by : (b : Bool) → IsOk {T = FedEvent} {E = FaultAt} (cond b (Ok (record { name = read.0; event = read.1; line = place })) (Err (place, NoRoom))) → cond b [] (unknown_name_said opened none_met number line read.0) ≡ []
     by true fine = refl
     by false fine = absurd cc
 
@@ -125,7 +125,7 @@ first_fine later fed (Err fault) is = absurd cc
 
 -- what comes after a line that is fine
 same_rest : (opened : OpenedParts) (most left number place : ℕ) (text : List ℕ) → IsOk (of_known_room opened.rooms place (line_in (first_line text)))
-    → said_from (event_lines false opened) most left (strangers_after opened none_met text) number (events_after text) ≡ said_from (event_lines false opened) most left none_met number (later_lines text)
+    → said_from (event_lines false opened) most left (unknown_names_after opened none_met text) number (events_after text) ≡ said_from (event_lines false opened) most left none_met number (later_lines text)
 same_rest opened most left number place text fine =
     ap (λ (known : MetNames). said_from (event_lines false opened) most left known number (events_after text)) (none_new opened place (line_in (first_line text)) fine)
     ∙ ap (λ (late : Bool). said_from (event_lines false opened) most left none_met number (cond late (drop (block_extent (later_lines text)) (later_lines text)) (later_lines text)))
@@ -185,7 +185,7 @@ with_fine : (setup : Setup) (fed : Result (List FedEvent) FaultAt) → IsWhole (
 with_fine setup (Ok fed) is = (is, refl)
 with_fine setup (Err fault) is = absurd is
 
-read_fine : (input : List ℕ) (blocks : Result (Setup × List ℕ) FaultAt) (said : List ℕ) → AreFaultsAfter input blocks said → (said ≡ []) ↔ IsWhole (events_behind blocks)
+read_fine : (input : List ℕ) (blocks : Result (Setup × List ℕ) FaultAt) (said : List ℕ) → AreFaultsAfter input blocks said → (said ≡ []) ↔ IsWhole (later_events blocks)
 read_fine input (Ok read) said are =
     let refusals = are.0 in
     let opened : OpenedParts = record { rooms = read.0.rooms; input = input; refused = refusals } in

@@ -25,11 +25,11 @@ use Rattle.service_core.specs.declared.reply.Reply.{Reply}
 use Rattle.service_core.specs.declared.reply.Reply.TheVariants as replies
 use Rattle.service_core.specs.declared.reply.Refusal.{Refusal}
 use Rattle.service_core.specs.declared.reply.Refusal.TheVariants.{NoRoom, NameTaken, NoSimulator, OutOfMemory}
-use Rattle.script_play.specs.Play.{AreDone, AreReplies, Done, Faulty, IsDone, IsPlayFor, OpensNone, Replied, Unread, commands_of, ending_if, is_lacking, is_refusal, is_refused, refusal_in, replies_in}
-use Rattle.script_play.specs.Script.{Ask, Entry, Open, and_then, asked, block_behind, command_in, command_of, command_to, crash_command, entry_at, is_open, number_within, script_from, script_says, step_command, text_behind}
+use Rattle.script_play.specs.Play.{AreDone, AreReplies, Done, Faulty, IsDone, IsPlayFor, OpensNone, Replied, Unread, commands_of, ending_if, ran_out_of_memory, is_refusal, is_refused, refusal_in, replies_in}
+use Rattle.script_play.specs.Script.{Ask, Entry, Open, and_then, asked, block_after, command_in, command_of, command_to, crash_command, entry_at, is_open, number_within, script_from, script_says, step_command, text_after}
 use Rattle.fault_text.specs.Blocks.{later_line, line_fault}
 use Rattle.fault_text.specs.Phrases.{form_fault}
-use Rattle.fault_text.specs.Strangers.{MetNames, more_note}
+use Rattle.fault_text.specs.UnknownNames.{MetNames, more_note}
 use Rattle.file_faults.specs.Json.{enough_in}
 use Rattle.file_faults.specs.OpenRooms.{refusal_of, rooms_after, rooms_begun, simulators_in, simulators_of}
 use Rattle.file_faults.specs.Scripts.{KnownRooms, absent_said, bad_command, block_in_front, block_said, entries, entry_said, explained_at_most, known_after, known_after_command, line_said, met_if_absent, none_known, read_said, refused_said, rooms_after_read, script_said, script_faults}
@@ -132,7 +132,7 @@ Rooms = List ℕ → Option OpenRoom
 
 -- what is known is how many simulators each open room has, and that no line named another
 record Knows (known : KnownRooms) (state : Rooms) : Type 0 where
-  none : known.strangers ≡ record { names = []; more = 0 }
+  none : known.unknown_names ≡ record { names = []; more = 0 }
   same : (name : List ℕ) → simulators_of name known.rooms ≡ simulators_in (state name)
 
 -- the replies to all that is done are those of these rooms
@@ -180,7 +180,7 @@ later_replies state command reply more owns name = by (bytes_eq name (name_in co
 
 -- what is known after a command that is done
 knows_after : (known : KnownRooms) (state : Rooms) (command : Command) → OpensNone command → Knows known state
-    → Knows (record { rooms = rooms_after known.rooms command; strangers = known.strangers }) (rooms_then state command)
+    → Knows (record { rooms = rooms_after known.rooms command; unknown_names = known.unknown_names }) (rooms_then state command)
 knows_after known state command opens knows = record { none = knows.none; same = λ name. by name (bytes_eq name (name_in command)) refl }
   where
     by : (name : List ℕ) (b : Bool) → bytes_eq name (name_in command) ≡ b → simulators_of name (rooms_after known.rooms command) ≡ simulators_in (cond b (room_after (state name) command) (state name))
@@ -191,7 +191,7 @@ knows_after known state command opens knows = record { none = knows.none; same =
     by name false is = rooms.others_known known.rooms command name is ∙ knows.same name
 
 knows_begun : (known : KnownRooms) (state : Rooms) (spec : RoomSpec) → Knows known state
-    → Knows (record { rooms = rooms_begun known.rooms spec; strangers = known.strangers }) (rooms_then state (commands.Begin spec))
+    → Knows (record { rooms = rooms_begun known.rooms spec; unknown_names = known.unknown_names }) (rooms_then state (commands.Begin spec))
 knows_begun known state spec knows = record { none = knows.none; same = λ name. by name (bytes_eq name spec.name) refl }
   where
     by : (name : List ℕ) (b : Bool) → bytes_eq name spec.name ≡ b → simulators_of name (rooms_begun known.rooms spec) ≡ simulators_in (cond b (room_after (state name) (commands.Begin spec)) (state name))
@@ -231,13 +231,13 @@ refused_none replies.Closed is = refl
 refused_none (replies.Refused refusal) is = absurd cc
 
 -- if no line named another room, each refused command is explained
-said_why : (script : List ℕ) (known : KnownRooms) (number : ℕ) (line name : List ℕ) (refusal : Option Refusal) → known.strangers ≡ record { names = []; more = 0 }
+said_why : (script : List ℕ) (known : KnownRooms) (number : ℕ) (line name : List ℕ) (refusal : Option Refusal) → known.unknown_names ≡ record { names = []; more = 0 }
     → refused_said script known number line name refusal ≡ [] → refusal ≡ None
 said_why script known number line name None none is = refl
-said_why script known number line name (Some NoRoom) none is = absurd (by known.strangers none is)
+said_why script known number line name (Some NoRoom) none is = absurd (by known.unknown_names none is)
   where
-    by : (strangers : MetNames) → strangers ≡ record { names = []; more = 0 } → absent_said script strangers number line name ≡ [] → ⊥
-    by strangers same said = let there = subst (λ (s : MetNames). absent_said script s number line name ≡ []) same said in omega (arith, ap length there)
+    by : (unknown_names : MetNames) → unknown_names ≡ record { names = []; more = 0 } → absent_said script unknown_names number line name ≡ [] → ⊥
+    by unknown_names same said = let there = subst (λ (s : MetNames). absent_said script s number line name ≡ []) same said in omega (arith, ap length there)
 said_why script known number line name (Some NameTaken) none is = absurd (omega (arith, ap length is))
 said_why script known number line name (Some NoSimulator) none is = absurd (omega (arith, ap length is))
 said_why script known number line name (Some OutOfMemory) none is = absurd (omega (arith, ap length is))
@@ -249,7 +249,7 @@ command_agrees script known state number line command reply more read knows owns
   said_if = λ fine. ap (refused_said script known number line (name_in command)) (found ∙ none_refused reply fine);
   done_if = λ none. refused_none reply (sym found ∙ said_why script known number line (name_in command) (refusal_of known.rooms command) knows.none none);
   knows = λ fine. subst (λ (refusal : Option Refusal).
-      Knows (record { rooms = rooms_after known.rooms command; strangers = met_if_absent known.strangers (name_in command) refusal }) (rooms_then state command))
+      Knows (record { rooms = rooms_after known.rooms command; unknown_names = met_if_absent known.unknown_names (name_in command) refusal }) (rooms_then state command))
       (sym (found ∙ none_refused reply fine)) (knows_after known state command opens knows);
   owns = later_replies state command reply more owns;
 }
@@ -274,7 +274,7 @@ taken_if number block true is = absurd (taken_line_said number block is)
 taken_if number block false is = refl
 
 begin_agrees : (known : KnownRooms) (state : Rooms) (number : ℕ) (block : List ℕ) (spec : RoomSpec) (len : ℕ) (reply : Reply) (more : List Done) → Knows known state → Owns state (Replied (commands.Begin spec) reply ∷ more)
-    → Agrees known (record { rooms = rooms_after_read known.rooms (Ok (spec, len)); strangers = known.strangers }) state (Replied (commands.Begin spec) reply) more (read_said known.rooms number block (Ok (spec, len)))
+    → Agrees known (record { rooms = rooms_after_read known.rooms (Ok (spec, len)); unknown_names = known.unknown_names }) state (Replied (commands.Begin spec) reply) more (read_said known.rooms number block (Ok (spec, len)))
 begin_agrees known state number block spec len reply more knows owns = record {
   said_if = λ fine. ap (λ (b : Bool). cond b (line_fault number block 2 BlockTaken) []) (found ∙ fine);
   done_if = λ none. sym found ∙ taken_if number block (is_some (simulators_of spec.name known.rooms)) none;
@@ -300,13 +300,13 @@ went (Ok entry) (Err fault) all is = absurd cc
 went (Ok entry) (Ok later) all is = record { entry = entry; later = later; first_is = refl; rest_is = refl; all_is = cc }
 
 -- a block after a line `open`
-block_agrees : (known : KnownRooms) (state : Rooms) (number first : ℕ) (block : List ℕ) (done : Done) (more : List Done) → IsDone (Open first block) done → is_lacking done ≡ false → Knows known state → Owns state (done ∷ more)
-    → Agrees known (record { rooms = rooms_after_read known.rooms (block_in block); strangers = known.strangers }) state done more (block_said known.rooms number block)
+block_agrees : (known : KnownRooms) (state : Rooms) (number first : ℕ) (block : List ℕ) (done : Done) (more : List Done) → IsDone (Open first block) done → ran_out_of_memory done ≡ false → Knows known state → Owns state (done ∷ more)
+    → Agrees known (record { rooms = rooms_after_read known.rooms (block_in block); unknown_names = known.unknown_names }) state done more (block_said known.rooms number block)
 block_agrees known state number first block (Replied asked reply) more is enough knows owns =
     let spec = is.0 in
     let len = is.1 in
-    subst (λ (read : Result (RoomSpec × ℕ) SpecFault). Agrees known (record { rooms = rooms_after_read known.rooms read; strangers = known.strangers }) state (Replied asked reply) more (read_said known.rooms number block read)) (sym is.2)
-    (subst (λ (command : Command). Agrees known (record { rooms = rooms_after_read known.rooms (Ok (spec, len)); strangers = known.strangers }) state (Replied command reply) more (read_said known.rooms number block (Ok (spec, len)))) (sym is.3)
+    subst (λ (read : Result (RoomSpec × ℕ) SpecFault). Agrees known (record { rooms = rooms_after_read known.rooms read; unknown_names = known.unknown_names }) state (Replied asked reply) more (read_said known.rooms number block read)) (sym is.2)
+    (subst (λ (command : Command). Agrees known (record { rooms = rooms_after_read known.rooms (Ok (spec, len)); unknown_names = known.unknown_names }) state (Replied command reply) more (read_said known.rooms number block (Ok (spec, len)))) (sym is.3)
     (begin_agrees known state number block spec len reply more knows (subst (λ (command : Command). Owns state (Replied command reply ∷ more)) is.3 owns)))
 block_agrees known state number first block (Faulty line fault) more is enough knows owns = record {
   said_if = λ fine. absurd cc;
@@ -336,7 +336,7 @@ asks place (Some command) entry is = (command, refl, cc)
 
 -- what comes first in a text
 entry_agrees : (script : List ℕ) (known : KnownRooms) (state : Rooms) (number place : ℕ) (text : List ℕ) (entry : Entry) (done : Done) (more : List Done)
-    → entry_at place (first_line text) (block_behind (first_line text) (later_lines text)) ≡ Ok entry → IsDone entry done → is_lacking done ≡ false → Knows known state → Owns state (done ∷ more)
+    → entry_at place (first_line text) (block_after (first_line text) (later_lines text)) ≡ Ok entry → IsDone entry done → ran_out_of_memory done ≡ false → Knows known state → Owns state (done ∷ more)
     → Agrees known (known_after known text) state done more (entry_said script known number text)
 entry_agrees script known state number place text entry done more at is enough knows owns = by (is_open (first_line text)) at
   where
@@ -347,7 +347,7 @@ entry_agrees script known state number place text entry done more at is enough k
     line = first_line text
 
     by : (b : Bool) → cond b (Ok (Open (place + 1) (cond b block []))) (asked place (command_in line)) ≡ Ok entry
-        → Agrees known (cond b (record { rooms = rooms_after_read known.rooms (block_in block); strangers = known.strangers }) (known_after_command known (command_in line))) state done more
+        → Agrees known (cond b (record { rooms = rooms_after_read known.rooms (block_in block); unknown_names = known.unknown_names }) (known_after_command known (command_in line))) state done more
         (cond b (block_said known.rooms (later_line number 1) block) (line_said script known number line (command_in line)))
     by true same =
         let opens : entry ≡ Open (place + 1) block = cc in
@@ -356,7 +356,7 @@ entry_agrees script known state number place text entry done more at is enough k
         let it = asks place (command_in line) entry same in
         line_agrees script known state number line it.0 done more it.1 (subst (λ (one : Entry). IsDone one done) it.2 is) knows owns
 
-ends_with_none : (known : KnownRooms) (state : Rooms) → Knows known state → more_note MORE_COMMANDS.now known.strangers ≡ []
+ends_with_none : (known : KnownRooms) (state : Rooms) → Knows known state → more_note MORE_COMMANDS.now known.unknown_names ≡ []
 ends_with_none known state knows = ap (more_note MORE_COMMANDS.now) knows.none
 
 record SaysNone (script : List ℕ) (most left number : ℕ) (known : KnownRooms) (text : List ℕ) (all : List Done) : Type 0 where
@@ -369,7 +369,7 @@ entries_of (Err fault) = []
 
 -- nothing came of no entries
 none_done : (script : List ℕ) (most left number : ℕ) (known : KnownRooms) (state : Rooms) (text : List ℕ) (wanted : List Entry) (all : List Done) → wanted ≡ [] → AreDone wanted all → Knows known state
-    → said_from (entries false script) most left known number text ≡ more_note MORE_COMMANDS.now known.strangers → SaysNone script most left number known text all
+    → said_from (entries false script) most left known number text ≡ more_note MORE_COMMANDS.now known.unknown_names → SaysNone script most left number known text all
 none_done script most left number known state text [] [] none are knows is = record { said_if = λ fine. is ∙ ends_with_none known state knows; done_if = λ said. refl }
 none_done script most left number known state text [] (done ∷ all) none are knows is = absurd are
 none_done script most left number known state text (entry ∷ wanted) all none are knows is = absurd (omega (arith, ap length none))
@@ -377,20 +377,20 @@ none_done script most left number known state text (entry ∷ wanted) all none a
 -- what is said of a text from each state of the rooms on, in so many entries
 abbrev AgreesFrom : List ℕ → ℕ → ℕ → Type 0
 AgreesFrom script most left = (number place : ℕ) (known : KnownRooms) (state : Rooms) (text : List ℕ) (wanted : List Entry) (all : List Done)
-    → script_from most place text ≡ Ok wanted → AreDone wanted all → list_any is_lacking all ≡ false → Knows known state → Owns state all → SaysNone script most left number known text all
+    → script_from most place text ≡ Ok wanted → AreDone wanted all → list_any ran_out_of_memory all ≡ false → Knows known state → Owns state all → SaysNone script most left number known text all
 
 one_more : (script : List ℕ) (most left number place : ℕ) (known : KnownRooms) (state : Rooms) (byte : ℕ) (bytes : List ℕ) (entry : Entry) (wanted : List Entry) (all : List Done) → AgreesFrom script most left
-    → entry_at place (first_line (byte ∷ bytes)) (block_behind (first_line (byte ∷ bytes)) (later_lines (byte ∷ bytes))) ≡ Ok entry
-    → script_from most (place + 1 + length (text_lines (block_behind (first_line (byte ∷ bytes)) (later_lines (byte ∷ bytes))))) (text_behind (first_line (byte ∷ bytes)) (later_lines (byte ∷ bytes))) ≡ Ok wanted
-    → AreDone (entry ∷ wanted) all → list_any is_lacking all ≡ false → Knows known state → Owns state all → SaysNone script (suc most) left number known (byte ∷ bytes) all
+    → entry_at place (first_line (byte ∷ bytes)) (block_after (first_line (byte ∷ bytes)) (later_lines (byte ∷ bytes))) ≡ Ok entry
+    → script_from most (place + 1 + length (text_lines (block_after (first_line (byte ∷ bytes)) (later_lines (byte ∷ bytes))))) (text_after (first_line (byte ∷ bytes)) (later_lines (byte ∷ bytes))) ≡ Ok wanted
+    → AreDone (entry ∷ wanted) all → list_any ran_out_of_memory all ≡ false → Knows known state → Owns state all → SaysNone script (suc most) left number known (byte ∷ bytes) all
 one_more script most left number place known state byte bytes entry wanted [] again at rest are enough knows owns = absurd are
 one_more script most left number place known state byte bytes entry wanted (done ∷ more) again at rest are enough knows owns =
     let text = byte ∷ bytes in
-    let both = or_parts (is_lacking done) (list_any is_lacking more) enough in
+    let both = or_parts (ran_out_of_memory done) (list_any ran_out_of_memory more) enough in
     let one = entry_agrees script known state number place text entry done more at are.0 both.0 knows owns in
-    let next : is_refused done ≡ false → SaysNone script most left ((entries false script).next number text) (known_after known text) (text_behind (first_line text) (later_lines text)) more =
-    λ fine. again ((entries false script).next number text) (place + 1 + length (text_lines (block_behind (first_line text) (later_lines text)))) (known_after known text) (after_done state done)
-    (text_behind (first_line text) (later_lines text)) wanted more rest are.1 both.1 (one.knows fine) one.owns in
+    let next : is_refused done ≡ false → SaysNone script most left ((entries false script).next number text) (known_after known text) (text_after (first_line text) (later_lines text)) more =
+    λ fine. again ((entries false script).next number text) (place + 1 + length (text_lines (block_after (first_line text) (later_lines text)))) (known_after known text) (after_done state done)
+    (text_after (first_line text) (later_lines text)) wanted more rest are.1 both.1 (one.knows fine) one.owns in
     record {
       said_if = λ fine.
           let parts = or_parts (is_refused done) (list_any is_refused more) fine in
@@ -410,15 +410,15 @@ agrees script (suc most) left number place known state [] wanted all says are en
 agrees script (suc most) left number place known state (byte ∷ bytes) wanted all says are enough knows owns =
     let line = first_line (byte ∷ bytes) in
     let later = later_lines (byte ∷ bytes) in
-    let it = went (entry_at place line (block_behind line later)) (script_from most (place + 1 + length (text_lines (block_behind line later))) (text_behind line later)) wanted says in
+    let it = went (entry_at place line (block_after line later)) (script_from most (place + 1 + length (text_lines (block_after line later))) (text_after line later)) wanted says in
     one_more script most left number place known state byte bytes it.entry it.later all (agrees script most left) it.first_is it.rest_is (subst (λ (l : List Entry). AreDone l all) (sym it.all_is) are) enough knows owns
 
 -- ---- a script from its beginning
 
-wants_none : (all : List Done) → list_any is_lacking all ≡ false → HasNoWant (replies_in all)
+wants_none : (all : List Done) → list_any ran_out_of_memory all ≡ false → HasNoWant (replies_in all)
 wants_none [] enough = refl
 wants_none (Replied command reply ∷ all) enough =
-    let both = or_parts (is_want reply) (list_any is_lacking all) enough in
+    let both = or_parts (is_want reply) (list_any ran_out_of_memory all) enough in
     ap (λ (b : Bool). b || list_any is_want (replies_in all)) both.0 ∙ wants_none all both.1
 wants_none (Faulty line fault ∷ all) enough = wants_none all enough
 wants_none (Unread line ∷ all) enough = absurd cc
@@ -440,15 +440,15 @@ own_wants name (command ∷ commands) (reply ∷ replies) none =
     by true one rest = ap (λ (b : Bool). b || list_any is_want (replies_of name commands replies)) one ∙ rest
     by false one rest = rest
 
-all_granted : (all : List Done) → list_any is_lacking all ≡ false → granted (commands_of all) (replies_in all) ≡ commands_of all
+all_granted : (all : List Done) → list_any ran_out_of_memory all ≡ false → granted (commands_of all) (replies_in all) ≡ commands_of all
 all_granted [] enough = refl
 all_granted (Replied command reply ∷ all) enough =
-    let both = or_parts (is_want reply) (list_any is_lacking all) enough in
+    let both = or_parts (is_want reply) (list_any ran_out_of_memory all) enough in
     ap (λ (b : Bool). cond b (granted (commands_of all) (replies_in all)) (command ∷ granted (commands_of all) (replies_in all))) both.0 ∙ ap (λ (l : List Command). command ∷ l) (all_granted all both.1)
 all_granted (Faulty line fault ∷ all) enough = all_granted all enough
 all_granted (Unread line ∷ all) enough = absurd cc
 
-owns_first : (all : List Done) → AreReplies (commands_of all) (replies_in all) → list_any is_lacking all ≡ false → Owns (λ name. None) all
+owns_first : (all : List Done) → AreReplies (commands_of all) (replies_in all) → list_any ran_out_of_memory all ≡ false → Owns (λ name. None) all
 owns_first all are enough name =
     sym (kept_all (replies_of name (commands_of all) (replies_in all)) (own_wants name (commands_of all) (replies_in all) (wants_none all enough)))
     ∙ are.alone name ∙ ap (λ (l : List Command). replies_from None (part name l)) (all_granted all enough)
@@ -469,7 +469,7 @@ pub played_well : (script output : List ℕ) (outcome : Outcome) → IsPlayFor s
 unfolding script_said
 played_well script output outcome played =
     let text = played.2 in
-    let end = enough_for (list_any is_lacking text.all) (list_any is_refused text.all) outcome text.ending_is in
+    let end = enough_for (list_any ran_out_of_memory text.all) (list_any is_refused text.all) outcome text.ending_is in
     let one = agrees script (length script) (explained_at_most script) 1 1 none_known (λ name. None) script played.0 text.all played.1 text.each_entry end.0 none_known_yet (owns_first text.all text.replies end.0) in (
       (λ well. one.said_if (well_if (list_any is_refused text.all) (sym end.1 ∙ well))),
       (λ none. end.1 ∙ ap (λ (b : Bool). outcome_if (not b)) (one.done_if none)),
@@ -481,7 +481,7 @@ command_there : (script : List ℕ) (known : KnownRooms) (number place : ℕ) (l
 command_there script known number place line None is = absurd (bad_said number line is)
 command_there script known number place line (Some command) is = refl
 
-entry_there : (script : List ℕ) (known : KnownRooms) (number place : ℕ) (text : List ℕ) → entry_said script known number text ≡ [] → IsOk (entry_at place (first_line text) (block_behind (first_line text) (later_lines text)))
+entry_there : (script : List ℕ) (known : KnownRooms) (number place : ℕ) (text : List ℕ) → entry_said script known number text ≡ [] → IsOk (entry_at place (first_line text) (block_after (first_line text) (later_lines text)))
 entry_there script known number place text is = by (is_open (first_line text)) is
   where
     by : (b : Bool) → cond b (block_said known.rooms (later_line number 1) (block_in_front (later_lines text))) (line_said script known number (first_line text) (command_in (first_line text))) ≡ []
@@ -501,10 +501,10 @@ readable script (suc most) left number place known [] none = refl
 readable script (suc most) left number place known (byte ∷ bytes) none =
     let text = byte ∷ bytes in
     let said = said_nothing (entries false script) most left number known byte bytes enough_said none in
-    both_there (entry_at place (first_line text) (block_behind (first_line text) (later_lines text)))
-    (script_from most (place + 1 + length (text_lines (block_behind (first_line text) (later_lines text)))) (text_behind (first_line text) (later_lines text)))
+    both_there (entry_at place (first_line text) (block_after (first_line text) (later_lines text)))
+    (script_from most (place + 1 + length (text_lines (block_after (first_line text) (later_lines text)))) (text_after (first_line text) (later_lines text)))
     (entry_there script known number place text said.0)
-    (readable script most left ((entries false script).next number text) (place + 1 + length (text_lines (block_behind (first_line text) (later_lines text)))) (known_after known text) (text_behind (first_line text) (later_lines text)) said.1)
+    (readable script most left ((entries false script).next number text) (place + 1 + length (text_lines (block_after (first_line text) (later_lines text)))) (known_after known text) (text_after (first_line text) (later_lines text)) said.1)
 
 -- A script of which nothing is said has no malformed line.
 pub well_formed : (script : List ℕ) → script_faults script ≡ [] → IsOk (script_says script)

@@ -17,7 +17,7 @@ use Rattle.fault_text.specs.Phrases.{fits_one, form_fault}
 use Rattle.fault_text.specs.Places.{place_notes}
 use Rattle.fault_text.specs.Refusals.{named_refusals}
 use Rattle.fault_text.specs.Spots.{SpotParts, form_spot}
-use Rattle.fault_text.specs.Strangers.{MetNames, is_met, met, more_note, near_room}
+use Rattle.fault_text.specs.UnknownNames.{MetNames, is_met, met, more_note, near_room}
 use Rattle.fault_text.specs.declared.refusals.RefusedBlock.{RefusedBlock}
 use Rattle.fault_text.specs.declared.hints.TheConstants.{NO_EVENT}
 use Rattle.fault_text.specs.declared.phrases.TheConstants.{EVENTS}
@@ -35,13 +35,13 @@ pub record OpenedParts : Type 0 where
 
 -- no room has the name, which is said of the first line that has it, with a name that is near it, and that a block of this name is refused,
 -- if one is
-abbrev pub stranger_said : OpenedParts → MetNames → ℕ → List ℕ → List ℕ → List ℕ
-stranger_said opened strangers number line name =
-    if is_met name strangers then [] else indented_all (place_notes number no_room_sentence [] line) ++ (near_room opened.input name ++ named_refusals opened.input name opened.refused)
+abbrev pub unknown_name_said : OpenedParts → MetNames → ℕ → List ℕ → List ℕ → List ℕ
+unknown_name_said opened unknown_names number line name =
+    if is_met name unknown_names then [] else indented_all (place_notes number no_room_sentence [] line) ++ (near_room opened.input name ++ named_refusals opened.input name opened.refused)
 
 -- the line has the name of no room, unless a room has it
 abbrev pub no_room_said : OpenedParts → MetNames → ℕ → List ℕ → List ℕ → List ℕ
-no_room_said opened strangers number line name = if has_room name opened.rooms then [] else stranger_said opened strangers number line name
+no_room_said opened unknown_names number line name = if has_room name opened.rooms then [] else unknown_name_said opened unknown_names number line name
 
 -- the line has this fault, and its place is elsewhere
 abbrev pub misplaced_said : ℕ → List ℕ → LineFault → List ℕ → List ℕ
@@ -55,23 +55,23 @@ bad_line_said number line fault =
     else form_fault number (sentence_of fault) line (map (λ form. form.now) EVENTS) ++ hint (advice (map (λ entry. entry.now) NO_EVENT) line)
 
 abbrev pub line_said : OpenedParts → MetNames → ℕ → List ℕ → Result (List ℕ × Event) LineFault → List ℕ
-line_said opened strangers number line (Ok read) = no_room_said opened strangers number line read.0
-line_said opened strangers number line (Err fault) = bad_line_said number line fault
+line_said opened unknown_names number line (Ok read) = no_room_said opened unknown_names number line read.0
+line_said opened unknown_names number line (Err fault) = bad_line_said number line fault
 
 -- the first line of a text
 abbrev pub event_said : OpenedParts → MetNames → ℕ → List ℕ → List ℕ
-event_said opened strangers number text = line_said opened strangers number (first_line text) (line_in (first_line text))
+event_said opened unknown_names number text = line_said opened unknown_names number (first_line text) (line_in (first_line text))
 
 abbrev pub met_unless : Bool → List ℕ → MetNames → MetNames
-met_unless there name strangers = if there then strangers else met name strangers
+met_unless there name unknown_names = if there then unknown_names else met name unknown_names
 
 abbrev pub met_if : OpenedParts → MetNames → Result (List ℕ × Event) LineFault → MetNames
-met_if opened strangers (Ok read) = met_unless (has_room read.0 opened.rooms) read.0 strangers
-met_if opened strangers (Err fault) = strangers
+met_if opened unknown_names (Ok read) = met_unless (has_room read.0 opened.rooms) read.0 unknown_names
+met_if opened unknown_names (Err fault) = unknown_names
 
 -- the names of no room after it
-abbrev pub strangers_after : OpenedParts → MetNames → List ℕ → MetNames
-strangers_after opened strangers text = met_if opened strangers (line_in (first_line text))
+abbrev pub unknown_names_after : OpenedParts → MetNames → List ℕ → MetNames
+unknown_names_after opened unknown_names text = met_if opened unknown_names (line_in (first_line text))
 
 -- a block among event lines is explained by its first line, which is no event line
 abbrev pub begins_late_block : List ℕ → Bool
@@ -80,8 +80,8 @@ begins_late_block text = fits_one (first_line text) (codes "bgsim B" ∷ []) && 
 abbrev pub next_event : ℕ → List ℕ → ℕ
 next_event number text = if begins_late_block text then later_line number (length (text_lines (block_in_front text))) else later_line number 1
 
-abbrev pub events_behind : List ℕ → List ℕ
-events_behind text = if begins_late_block text then drop (block_extent (later_lines text)) (later_lines text) else later_lines text
+abbrev pub later_events : List ℕ → List ℕ
+later_events text = if begins_late_block text then drop (block_extent (later_lines text)) (later_lines text) else later_lines text
 
 -- the place of what is said of a line
 abbrev pub bad_line_spot : ℕ → List ℕ → LineFault → SpotParts
@@ -98,15 +98,15 @@ event_spot number text = line_spot number (first_line text) (line_in (first_line
 
 -- what is said of a line, as text or as JSON
 abbrev pub event_in : Bool → OpenedParts → MetNames → ℕ → List ℕ → List ℕ
-event_in json opened strangers number text = fault_in json false (event_spot number text) (event_said opened strangers number text)
+event_in json opened unknown_names number text = fault_in json false (event_spot number text) (event_said opened unknown_names number text)
 
 abbrev pub event_lines : Bool → OpenedParts → Parts MetNames
 event_lines json opened = record {
   said = event_in json opened;
-  known = λ strangers number text. strangers_after opened strangers text;
+  known = λ unknown_names number text. unknown_names_after opened unknown_names text;
   next = next_event;
-  later = events_behind;
-  ends = λ strangers. more_in json (more_note MORE_LINES.now strangers);
+  later = later_events;
+  ends = λ unknown_names. more_in json (more_note MORE_LINES.now unknown_names);
   enough = enough_in json;
 }
 

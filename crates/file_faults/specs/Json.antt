@@ -7,7 +7,7 @@ use Rattle.json_lines.specs.Values.{entry_data, number_data, text_data}
 use Rattle.room_files.specs.Blocks.{refused_line}
 use Rattle.room_files.specs.Lines.{text_lines}
 use Rattle.room_spec.specs.Texts.{first_line}
-use Rattle.fault_text.specs.Lines.{behind_lines}
+use Rattle.fault_text.specs.Lines.{lines_after}
 use Rattle.fault_text.specs.Spots.{IsSaidAt, SpotParts}
 use Rattle.fault_text.specs.declared.refusals.TheConstants.{ENOUGH}
 
@@ -23,7 +23,7 @@ head_lines refused place = (if refused then 1 else 0) + (if is_some place then 3
 
 -- the lines after these
 abbrev pub hints_data : ℕ → List ℕ → Data
-hints_data heads said = array (items_of (map note_data (text_lines (behind_lines heads said))))
+hints_data heads said = array (items_of (map note_data (text_lines (lines_after heads said))))
 
 -- the line that says that a block is refused
 abbrev pub refused_data : Bool → List ℕ → Data

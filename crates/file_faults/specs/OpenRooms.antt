@@ -1,4 +1,4 @@
--- Which rooms a script has opened, by its lines alone.
+-- Which rooms a script has opened, by nothing but its lines.
 use Rattle.std.specs.Prelude.{ℕ, List, Option, Some, None, is_some, nat_lt, if◌then◌else◌}
 use Rattle.std.specs.Map.{lookup}
 use Rattle.std.specs.Str.{bytes_eq}

@@ -15,14 +15,14 @@ use Rattle.service_core.specs.Replies.{name_in, refusal_sentence}
 use Rattle.service_core.specs.declared.command.Command.{Command}
 use Rattle.service_core.specs.declared.reply.Refusal.{Refusal}
 use Rattle.service_core.specs.declared.reply.Refusal.TheVariants as refusals
-use Rattle.script_play.specs.Script.{block_behind, command_in, is_open, text_behind}
+use Rattle.script_play.specs.Script.{block_after, command_in, is_open, text_after}
 use Rattle.fault_text.specs.Blocks.{block_fault, later_line, line_fault}
 use Rattle.fault_text.specs.Hints.{advice, hint}
 use Rattle.fault_text.specs.Lines.{indented, indented_all}
 use Rattle.fault_text.specs.Phrases.{form_fault}
 use Rattle.fault_text.specs.Places.{place_notes}
 use Rattle.fault_text.specs.Spots.{SpotParts, block_spot, form_spot, refusal_spot}
-use Rattle.fault_text.specs.Strangers.{MetNames, has_room_line, is_met, met, more_note, near_room}
+use Rattle.fault_text.specs.UnknownNames.{MetNames, has_room_line, is_met, met, more_note, near_room}
 use Rattle.fault_text.specs.declared.hints.TheConstants.{NO_COMMAND}
 use Rattle.fault_text.specs.declared.phrases.TheConstants.{COMMANDS}
 use Rattle.file_faults.specs.Json.{enough_in, fault_in, more_in}
@@ -38,7 +38,7 @@ fault_said number block fault = codes "    " ++ (refused_line number (fault_text
 -- What is known of a script's rooms from its lines before: which are open, and the names of no open room that commands had.
 pub record KnownRooms : Type 0 where
   pub rooms : RoomsByName
-  pub strangers : MetNames
+  pub unknown_names : MetNames
 
 -- ---- blocks
 
@@ -70,8 +70,8 @@ meant script name = if has_room_line name script then indented NOT_OPEN.now else
 
 -- which is said of the first line that has the name
 abbrev pub absent_said : List ℕ → MetNames → ℕ → List ℕ → List ℕ → List ℕ
-absent_said script strangers number line name =
-    if is_met name strangers then [] else indented_all (place_notes number (refusal_sentence refusals.NoRoom) [] line) ++ meant script name
+absent_said script unknown_names number line name =
+    if is_met name unknown_names then [] else indented_all (place_notes number (refusal_sentence refusals.NoRoom) [] line) ++ meant script name
 
 abbrev pub count_note : ℕ → List ℕ
 count_note simulators = COUNTED.now ++ ((32 ∷ decimal simulators) ++ codes "\n")
@@ -84,7 +84,7 @@ simulators_note (Some simulators) = count_note simulators
 -- why the line's command is refused
 abbrev pub refused_said : List ℕ → KnownRooms → ℕ → List ℕ → List ℕ → Option Refusal → List ℕ
 refused_said script known number line name None = []
-refused_said script known number line name (Some refusals.NoRoom) = absent_said script known.strangers number line name
+refused_said script known number line name (Some refusals.NoRoom) = absent_said script known.unknown_names number line name
 refused_said script known number line name (Some refusal) =
     indented_all (place_notes number (refusal_sentence refusal) [] line) ++ simulators_note (simulators_of name known.rooms)
 
@@ -94,13 +94,13 @@ line_said script known number line None = bad_command number line
 line_said script known number line (Some command) = refused_said script known number line (name_in command) (refusal_of known.rooms command)
 
 abbrev pub met_if_absent : MetNames → List ℕ → Option Refusal → MetNames
-met_if_absent strangers name (Some refusals.NoRoom) = met name strangers
-met_if_absent strangers name refusal = strangers
+met_if_absent unknown_names name (Some refusals.NoRoom) = met name unknown_names
+met_if_absent unknown_names name refusal = unknown_names
 
 abbrev pub known_after_command : KnownRooms → Option Command → KnownRooms
 known_after_command known None = known
 known_after_command known (Some command) =
-    record { rooms = rooms_after known.rooms command; strangers = met_if_absent known.strangers (name_in command) (refusal_of known.rooms command) }
+    record { rooms = rooms_after known.rooms command; unknown_names = met_if_absent known.unknown_names (name_in command) (refusal_of known.rooms command) }
 
 -- ---- entries
 
@@ -115,11 +115,11 @@ entry_said script known number text =
 
 abbrev pub known_after : KnownRooms → List ℕ → KnownRooms
 known_after known text =
-    if is_open (first_line text) then record { rooms = rooms_after_read known.rooms (block_in (block_in_front (later_lines text))); strangers = known.strangers }
+    if is_open (first_line text) then record { rooms = rooms_after_read known.rooms (block_in (block_in_front (later_lines text))); unknown_names = known.unknown_names }
     else known_after_command known (command_in (first_line text))
 
 abbrev pub next_number : ℕ → List ℕ → List ℕ → ℕ
-next_number number line later = later_line number (1 + length (text_lines (block_behind line later)))
+next_number number line later = later_line number (1 + length (text_lines (block_after line later)))
 
 -- the block after a line `open` is refused
 abbrev pub is_block_refused : List ℕ → Bool
@@ -154,13 +154,13 @@ entries json script = record {
   said = entry_in json script;
   known = λ known number text. known_after known text;
   next = λ number text. next_number number (first_line text) (later_lines text);
-  later = λ text. text_behind (first_line text) (later_lines text);
-  ends = λ known. more_in json (more_note MORE_COMMANDS.now known.strangers);
+  later = λ text. text_after (first_line text) (later_lines text);
+  ends = λ known. more_in json (more_note MORE_COMMANDS.now known.unknown_names);
   enough = enough_in json;
 }
 
 abbrev pub none_known : KnownRooms
-none_known = record { rooms = []; strangers = record { names = []; more = 0 } }
+none_known = record { rooms = []; unknown_names = record { names = []; more = 0 } }
 
 abbrev pub begins_with_block : List ℕ → Bool
 begins_with_block script = starts_with nat_eq script (codes "bgsim ")

@@ -33,11 +33,11 @@ abbrev pub next_part : ℕ → List ℕ → ℕ
 next_part number text = if begins_with_block text then later_line number (length (text_lines (block_in_front text))) else later_line number 1
 
 -- the first line of a block is no line `end`
-abbrev pub part_behind : List ℕ → List ℕ
-part_behind text = if begins_with_block text then drop (block_extent (later_lines text)) (later_lines text) else later_lines text
+abbrev pub part_after : List ℕ → List ℕ
+part_after text = if begins_with_block text then drop (block_extent (later_lines text)) (later_lines text) else later_lines text
 
 abbrev pub file_parts : Bool → Parts (Unit {0})
-file_parts json = alone (enough_in json) (part_warnings json) next_part part_behind
+file_parts json = alone (enough_in json) (part_warnings json) next_part part_after
 
 abbrev pub empty_in : Bool → List ℕ
 empty_in false = indented EMPTY_FILE.now

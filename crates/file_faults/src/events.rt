@@ -3,8 +3,8 @@ ghost use Rattle.std.specs.Prelude.{◌≡◌, ◌<◌, ◌++◌, IfOk, OnOk, So
 ghost use Rattle.history_checker.specs.Verdicts.{has_room};
 ghost use Rattle.transcript.specs.Lines.{line_in};
 ghost use Rattle.fault_text.specs.Refusals.{named_refusals};
-ghost use Rattle.fault_text.specs.Strangers.{met, more_note, near_room};
-ghost use Rattle.file_faults.specs.Events.{bad_line_said, bad_line_spot, begins_late_block, event_in, event_said, event_spot, events_behind, events_said, met_unless, misplaced_said, next_event, no_room_said, stranger_said, strangers_after};
+ghost use Rattle.fault_text.specs.UnknownNames.{met, more_note, near_room};
+ghost use Rattle.file_faults.specs.Events.{bad_line_said, bad_line_spot, begins_late_block, event_in, event_said, event_spot, later_events, events_said, met_unless, misplaced_said, next_event, no_room_said, unknown_name_said, unknown_names_after};
 ghost use Rattle.file_faults.specs.Json.{enough_in, more_in};
 ghost use Rattle.file_faults.specs.declared.events.TheConstants.{MORE_LINES};
 ghost use Rattle.file_faults.specs.Walks.{left_after, said_if_left};
@@ -13,7 +13,7 @@ use crate::json::{write_fault, write_more_in};
 use crate::scripts::{block_extent, block_in_front};
 use crate::walk::write_part;
 use fault_text::{
-    EVENTS, MOST_EXPLAINED, NO_EVENT, Refusals, Remark, Spot, Strangers, fits_one, later_line,
+    EVENTS, MOST_EXPLAINED, NO_EVENT, Refusals, Remark, Spot, UnknownNames, fits_one, later_line,
     write_advice, write_form_fault, write_indented, write_near_room, write_place,
 };
 use history_checker::NoRoom;
@@ -143,29 +143,33 @@ pub(crate) fn write_event_faults<'a>(
     let mut rest = transcript;
     let mut number = first;
     let mut left = MOST_EXPLAINED;
-    let mut strangers = Strangers::new(format.alloc);
+    let mut unknown_names = UnknownNames::new(format.alloc);
     'walk: while !rest.is_empty() {
         let part = EventPart {
             opened,
             number,
             text: rest,
         };
-        let Some(fewer) = write_event(format, output, left, &mut strangers, &part)? else {
+        let Some(fewer) = write_event(format, output, left, &mut unknown_names, &part)? else {
             return Ok(());
         };
         left = fewer;
         number = next_event(number, rest);
-        rest = events_behind(rest);
+        rest = later_events(rest);
     }
-    write_end(format, output, &strangers)
+    write_end(format, output, &unknown_names)
 }
 
 /// Writes how many lines had a name of no room that an earlier one had, if some did.
-fn write_end(format: Format, output: &mut Text, strangers: &Strangers) -> Result<(), AllocError>
-    ensures { OnOk result (output.new ≡ output.old ++ more_in format.json (more_note MORE_LINES.now strangers.now)) }
+fn write_end(
+    format: Format,
+    output: &mut Text,
+    unknown_names: &UnknownNames,
+) -> Result<(), AllocError>
+    ensures { OnOk result (output.new ≡ output.old ++ more_in format.json (more_note MORE_LINES.now unknown_names.now)) }
 {
     let mut said = Text::new(format.alloc);
-    strangers.write_more(&mut said, MORE_LINES)?;
+    unknown_names.write_more(&mut said, MORE_LINES)?;
     write_more_in(format, output, said.as_bytes())
 }
 
@@ -174,15 +178,15 @@ fn write_event(
     format: Format,
     output: &mut Text,
     left: usize,
-    strangers: &mut Strangers,
+    unknown_names: &mut UnknownNames,
     part: &EventPart<'_>,
 ) -> Result<Option<usize>, AllocError>
-    ensures left { IfOk result (λ fewer. fewer ≡ left_after left (event_in format.json part.now.opened.now strangers.old part.now.number part.now.text.now)) }
-    ensures text { OnOk result (output.new ≡ output.old ++ said_if_left (enough_in format.json) left (event_in format.json part.now.opened.now strangers.old part.now.number part.now.text.now)) }
-    ensures strangers { OnOk result (strangers.new ≡ strangers_after part.now.opened.now strangers.old part.now.text.now) }
+    ensures left { IfOk result (λ fewer. fewer ≡ left_after left (event_in format.json part.now.opened.now unknown_names.old part.now.number part.now.text.now)) }
+    ensures text { OnOk result (output.new ≡ output.old ++ said_if_left (enough_in format.json) left (event_in format.json part.now.opened.now unknown_names.old part.now.number part.now.text.now)) }
+    ensures unknown_names { OnOk result (unknown_names.new ≡ unknown_names_after part.now.opened.now unknown_names.old part.now.text.now) }
 {
     let mut shown = Text::new(format.alloc);
-    write_event_in(format, &mut shown, strangers, part)?;
+    write_event_in(format, &mut shown, unknown_names, part)?;
     write_part(format, output, left, shown.as_bytes())
 }
 
@@ -190,18 +194,18 @@ fn write_event(
 fn write_event_in(
     format: Format,
     output: &mut Text,
-    strangers: &mut Strangers,
+    unknown_names: &mut UnknownNames,
     part: &EventPart<'_>,
 ) -> Result<(), AllocError>
-    ensures text { OnOk result (output.new ≡ output.old ++ event_in format.json part.now.opened.now strangers.old part.now.number part.now.text.now) }
-    ensures strangers { OnOk result (strangers.new ≡ strangers_after part.now.opened.now strangers.old part.now.text.now) }
+    ensures text { OnOk result (output.new ≡ output.old ++ event_in format.json part.now.opened.now unknown_names.old part.now.number part.now.text.now) }
+    ensures unknown_names { OnOk result (unknown_names.new ≡ unknown_names_after part.now.opened.now unknown_names.old part.now.text.now) }
 {
     let alloc = format.alloc;
     if !format.json {
-        return write_event_said(alloc, output, strangers, part);
+        return write_event_said(alloc, output, unknown_names, part);
     }
     let mut said = Text::new(alloc);
-    write_event_said(alloc, &mut said, strangers, part)?;
+    write_event_said(alloc, &mut said, unknown_names, part)?;
     let spot = event_spot(part.number, part.text);
     write_fault(alloc, output, false, &spot, said.as_bytes())
 }
@@ -241,16 +245,16 @@ fn first_byte(number: u64, what: &'static str) -> Spot
 fn write_event_said(
     alloc: Global,
     output: &mut Text,
-    strangers: &mut Strangers,
+    unknown_names: &mut UnknownNames,
     part: &EventPart<'_>,
 ) -> Result<(), AllocError>
-    ensures text { OnOk result (output.new ≡ output.old ++ event_said part.now.opened.now strangers.old part.now.number part.now.text.now) }
-    ensures strangers { OnOk result (strangers.new ≡ strangers_after part.now.opened.now strangers.old part.now.text.now) }
+    ensures text { OnOk result (output.new ≡ output.old ++ event_said part.now.opened.now unknown_names.old part.now.number part.now.text.now) }
+    ensures unknown_names { OnOk result (unknown_names.new ≡ unknown_names_after part.now.opened.now unknown_names.old part.now.text.now) }
 {
     let (text, _) = split_line(part.text);
     let line = EventPart { text, ..*part };
     match read_line(text) {
-        Ok((name, _)) => write_no_room(alloc, output, strangers, &line, &name),
+        Ok((name, _)) => write_no_room(alloc, output, unknown_names, &line, &name),
         Err(fault) => write_bad_line(alloc, output, &line, fault),
     }
 }
@@ -310,8 +314,8 @@ fn next_event(number: u64, text: &[u8]) -> u64
 }
 
 /// What comes after the event line, or the block, with which a text begins.
-fn events_behind(text: &[u8]) -> &[u8]
-    ensures text { result.now ≡ events_behind text.now }
+fn later_events(text: &[u8]) -> &[u8]
+    ensures text { result.now ≡ later_events text.now }
     ensures shorter { 0 < length text.now → length result.now < length text.now }
 {
     let (_, later) = split_line(text);
@@ -326,31 +330,31 @@ fn events_behind(text: &[u8]) -> &[u8]
 fn write_no_room(
     alloc: Global,
     output: &mut Text,
-    strangers: &mut Strangers,
+    unknown_names: &mut UnknownNames,
     line: &EventPart<'_>,
     name: &Name,
 ) -> Result<(), AllocError>
-    ensures text { OnOk result (output.new ≡ output.old ++ no_room_said line.now.opened.now strangers.old line.now.number line.now.text.now name.now) }
-    ensures strangers { OnOk result (strangers.new ≡ met_unless (has_room name.now line.now.opened.now.rooms) name.now strangers.old) }
+    ensures text { OnOk result (output.new ≡ output.old ++ no_room_said line.now.opened.now unknown_names.old line.now.number line.now.text.now name.now) }
+    ensures unknown_names { OnOk result (unknown_names.new ≡ met_unless (has_room name.now line.now.opened.now.rooms) name.now unknown_names.old) }
 {
     if line.opened.has(name) {
         return Ok(());
     }
-    write_stranger(alloc, output, strangers, line, name.as_str().as_bytes())
+    write_unknown_name(alloc, output, unknown_names, line, name.as_str().as_bytes())
 }
 
 /// Writes the same of a name that no room has, and that a block of this name is refused, if one is, unless an earlier line has the same name.
-fn write_stranger(
+fn write_unknown_name(
     alloc: Global,
     output: &mut Text,
-    strangers: &mut Strangers,
+    unknown_names: &mut UnknownNames,
     line: &EventPart<'_>,
     name: &[u8],
 ) -> Result<(), AllocError>
-    ensures text { OnOk result (output.new ≡ output.old ++ stranger_said line.now.opened.now strangers.old line.now.number line.now.text.now name.now) }
-    ensures strangers { OnOk result (strangers.new ≡ met name.now strangers.old) }
+    ensures text { OnOk result (output.new ≡ output.old ++ unknown_name_said line.now.opened.now unknown_names.old line.now.number line.now.text.now name.now) }
+    ensures unknown_names { OnOk result (unknown_names.new ≡ met name.now unknown_names.old) }
 {
-    if strangers.meet(alloc, name)? {
+    if unknown_names.meet(alloc, name)? {
         return Ok(());
     }
     let remark = Remark::new(line.number, NoRoom.sentence());

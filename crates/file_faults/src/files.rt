@@ -7,7 +7,7 @@ ghost use Rattle.file_faults.specs.Json.{fault_in};
 use crate::events::{Opened, write_event_faults};
 use crate::json::{write_enough, write_fault};
 use fault_text::{
-    Refusals, RefusedBlock, Spot, go_behind, write_heading, write_indented, write_noted,
+    Refusals, RefusedBlock, Spot, go_past, write_heading, write_indented, write_noted,
 };
 use io_text::Text;
 use room_files::{InputFault, Setup, SpecList, TextFault, read_all_blocks, read_blocks};
@@ -87,7 +87,7 @@ fn write_explained(
     let mut passed = 0;
     for refusal in refusals {
         let lines = refusal.line.saturating_sub(1);
-        rest = go_behind(input, rest, passed, lines);
+        rest = go_past(input, rest, passed, lines);
         passed = lines;
         write_refusal(alloc, output, rest, *refusal)?;
     }

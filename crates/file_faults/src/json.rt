@@ -5,7 +5,7 @@ ghost use Rattle.json_lines.specs.Lines.{json_line};
 ghost use Rattle.json_lines.specs.Values.{entry_data};
 ghost use Rattle.file_faults.specs.Json.{enough_in, fault_data, fault_in, head_lines, hints_data, more_data, more_in, note_data, refused_data};
 
-use fault_text::{ENOUGH, Spot, behind_lines};
+use fault_text::{ENOUGH, Spot, lines_after};
 use io_text::Text;
 use json_lines::{text_value, write_line};
 use room_files::{next_line, split_line};
@@ -72,7 +72,7 @@ fn hints_value(alloc: Global, heads: u64, said: &[u8]) -> Result<Value, AllocErr
     ensures { IfOk result (λ value. view value ≡ hints_data heads said.now) }
 {
     let mut values = Vec::new(alloc);
-    let mut rest = behind_lines(said, heads);
+    let mut rest = lines_after(said, heads);
     while let Some((line, later)) = next_line(rest) {
         values.push(note_value(alloc, line)?)?;
         rest = later;

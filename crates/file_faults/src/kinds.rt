@@ -14,7 +14,7 @@ use std::alloc::{AllocError, Global};
 /// What a file is read as.
 #[derive(Clone, Copy)]
 pub enum Kind {
-    /// Room blocks alone.
+    /// Only room blocks.
     Rooms,
     /// A script.
     Script,

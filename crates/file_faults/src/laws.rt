@@ -13,7 +13,7 @@ ghost use Rattle.service_core.specs.declared.command.Command.TheVariants.{Begin}
 ghost use Rattle.room_files.specs.declared.fault.TextFault.{TextFault};
 ghost use Rattle.fault_text.specs.Refusals.{noted_refusal};
 ghost use Rattle.fault_text.specs.Spots.{refusal_spot};
-ghost use Rattle.fault_text.specs.Strangers.{MetNames};
+ghost use Rattle.fault_text.specs.UnknownNames.{MetNames};
 ghost use Rattle.fault_text.specs.declared.refusals.RefusedBlock.{RefusedBlock};
 ghost use Rattle.file_faults.specs.Events.{OpenedParts, event_said, event_spot};
 ghost use Rattle.file_faults.specs.Files.{AreRoomFaults, AreTranscriptFaults, IsWhole, unread_said, unread_spot};
@@ -64,7 +64,7 @@ pub fn transcripts_without_faults()
 /// sentence after the number of the line, and with a caret below the place.
 pub fn objects_say_what_the_text_says()
     ensures entries { (script : List ℕ) (known : KnownRooms) (number : ℕ) (text : List ℕ) → IsHeaded (is_block_refused text) (entry_spot known number text) (entry_said script known number text) }
-    ensures events { (opened : OpenedParts) (strangers : MetNames) (number : ℕ) (text : List ℕ) → IsHeaded false (event_spot number text) (event_said opened strangers number text) }
+    ensures events { (opened : OpenedParts) (unknown_names : MetNames) (number : ℕ) (text : List ℕ) → IsHeaded false (event_spot number text) (event_said opened unknown_names number text) }
     ensures refusals { (text : List ℕ) (refusal : RefusedBlock) → IsHeaded true (refusal_spot refusal.line text refusal.fault) (noted_refusal text refusal) }
     ensures unread { (line : ℕ) (fault : TextFault) → IsHeaded false (unread_spot line fault) (unread_said line fault) }
 {}

@@ -1,4 +1,4 @@
-//! All faults of a file, as text for people or as JSON, by what it is read as: a script, a transcript, or rooms alone; and what is warned of in its rooms.
+//! All faults of a file, as text for people or as JSON, by what it is read as: a script, a transcript, or only rooms; and what is warned of in its rooms.
 #![tactic(auto)]
 
 mod events;

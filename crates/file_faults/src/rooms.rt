@@ -1,4 +1,4 @@
-//! Which rooms a script has opened, by its lines alone.
+//! Which rooms a script has opened, by nothing but its lines.
 ghost use Rattle.std.specs.Prelude.{◌≡◌, [], None, Some, IfOk, OnOk, is_some};
 ghost use Rattle.file_faults.specs.OpenRooms.{absent, absent_or_without, refusal_of, rooms_after, rooms_begun, simulators_of, with_room};
 

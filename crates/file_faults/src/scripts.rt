@@ -2,11 +2,11 @@
 ghost use Rattle.std.specs.Prelude.{◌≡◌, ◌++◌, ◌≤◌, IfOk, OnOk, length};
 ghost use Rattle.room_spec.specs.Blocks.{block_in};
 ghost use Rattle.room_files.specs.Blocks.{block_extent};
-ghost use Rattle.script_play.specs.Script.{command_in, is_open, text_behind};
+ghost use Rattle.script_play.specs.Script.{command_in, is_open, text_after};
 ghost use Rattle.file_faults.specs.Scripts.{absent_said, bad_command, begins_with_block, block_in_front, block_said, count_note, ends_as_elsewhere, entry_in, entry_said, entry_spot, explained_at_most, fault_said, is_block_refused, known_after, known_after_command, line_said, line_spot, meant, met_if_absent, next_number, none_known, refused_said, refused_spot, rooms_after_read, script_faults, script_said, simulators_note, taken_said};
 ghost use Rattle.file_faults.specs.Json.{enough_in, more_in};
 ghost use Rattle.file_faults.specs.OpenRooms.{refusal_of, rooms_begun, simulators_of};
-ghost use Rattle.fault_text.specs.Strangers.{met, more_note};
+ghost use Rattle.fault_text.specs.UnknownNames.{met, more_note};
 ghost use Rattle.file_faults.specs.declared.scripts.TheConstants.{MORE_COMMANDS};
 ghost use Rattle.service_core.specs.Replies.{name_in};
 ghost use Rattle.service_core.specs.declared.reply.Refusal.TheVariants.{NoRoom};
@@ -16,7 +16,7 @@ use crate::json::{write_fault, write_more_in};
 use crate::rooms::OpenRooms;
 use crate::walk::write_part;
 use fault_text::{
-    COMMANDS, MOST_EXPLAINED, NO_COMMAND, Remark, Spot, Strangers, has_room_line, later_line,
+    COMMANDS, MOST_EXPLAINED, NO_COMMAND, Remark, Spot, UnknownNames, has_room_line, later_line,
     write_advice, write_block_fault, write_form_fault, write_indented, write_name_taken,
     write_near_room, write_place,
 };
@@ -44,7 +44,7 @@ const COUNTED: &[u8] = b"    its simulators are counted from 0, and there are";
 struct Known {
     rooms: OpenRooms,
     /// The names of no open room that commands had.
-    strangers: Strangers,
+    unknown_names: UnknownNames,
 }
 
 impl Model for Known {
@@ -52,7 +52,7 @@ impl Model for Known {
 
     ghost Value = { KnownRooms };
 
-    ghost view = { λ known. record { rooms = known.rooms; strangers = known.strangers } };
+    ghost view = { λ known. record { rooms = known.rooms; unknown_names = known.unknown_names } };
 }
 
 impl Known {
@@ -61,7 +61,7 @@ impl Known {
     {
         Known {
             rooms: OpenRooms::new(alloc),
-            strangers: Strangers::new(alloc),
+            unknown_names: UnknownNames::new(alloc),
         }
     }
 
@@ -77,10 +77,10 @@ impl Known {
 
     /// Writes how many commands had a name of no open room that an earlier one had, if some did.
     fn write_end(&self, format: Format, output: &mut Text) -> Result<(), AllocError>
-        ensures { OnOk result (output.new ≡ output.old ++ more_in format.json (more_note MORE_COMMANDS.now self.now.strangers)) }
+        ensures { OnOk result (output.new ≡ output.old ++ more_in format.json (more_note MORE_COMMANDS.now self.now.unknown_names)) }
     {
         let mut said = Text::new(format.alloc);
-        self.strangers.write_more(&mut said, MORE_COMMANDS)?;
+        self.unknown_names.write_more(&mut said, MORE_COMMANDS)?;
         write_more_in(format, output, said.as_bytes())
     }
 }
@@ -126,7 +126,7 @@ pub(crate) fn script_said(alloc: Global, json: bool, script: &[u8]) -> Result<Te
         left = fewer;
         let (line, later) = split_line(rest);
         number = next_number(number, line, later);
-        rest = text_behind(line, later);
+        rest = text_after(line, later);
     }
     known.write_end(format, &mut output)?;
     Ok(output)
@@ -332,13 +332,13 @@ fn write_refused_said(
 ) -> Result<(), AllocError>
     ensures text { OnOk result (output.new ≡ output.old ++ refused_said line.now.script.now known.old line.now.number line.now.text.now (name_in command.now) (refusal_of known.old.rooms command.now)) }
     ensures rooms { OnOk result (known.new.rooms ≡ known.old.rooms) }
-    ensures strangers { OnOk result (known.new.strangers ≡ met_if_absent known.old.strangers (name_in command.now) (refusal_of known.old.rooms command.now)) }
+    ensures unknown_names { OnOk result (known.new.unknown_names ≡ met_if_absent known.old.unknown_names (name_in command.now) (refusal_of known.old.rooms command.now)) }
 {
     match known.rooms.refusal_of(command) {
         None => Ok(()),
         Some(Refusal::NoRoom) => {
-            let strangers = &mut known.strangers;
-            write_absent_said(alloc, output, strangers, line, command.name())
+            let unknown_names = &mut known.unknown_names;
+            write_absent_said(alloc, output, unknown_names, line, command.name())
         }
         Some(refusal) => {
             let remark = Remark::new(line.number, refusal.sentence());
@@ -352,15 +352,15 @@ fn write_refused_said(
 fn write_absent_said(
     alloc: Global,
     output: &mut Text,
-    strangers: &mut Strangers,
+    unknown_names: &mut UnknownNames,
     line: &ScriptPart<'_>,
     name: &Name,
 ) -> Result<(), AllocError>
-    ensures text { OnOk result (output.new ≡ output.old ++ absent_said line.now.script.now strangers.old line.now.number line.now.text.now name.now) }
-    ensures strangers { OnOk result (strangers.new ≡ met name.now strangers.old) }
+    ensures text { OnOk result (output.new ≡ output.old ++ absent_said line.now.script.now unknown_names.old line.now.number line.now.text.now name.now) }
+    ensures unknown_names { OnOk result (unknown_names.new ≡ met name.now unknown_names.old) }
 {
     let bytes = name.as_str().as_bytes();
-    if strangers.meet(alloc, bytes)? {
+    if unknown_names.meet(alloc, bytes)? {
         return Ok(());
     }
     let remark = Remark::new(line.number, Refusal::NoRoom.sentence());
@@ -430,8 +430,8 @@ fn next_number(number: u64, line: &[u8], later: &[u8]) -> u64
 }
 
 /// What comes after an entry that begins with a line, which `later` follows.
-fn text_behind<'a>(line: &[u8], later: &'a [u8]) -> &'a [u8]
-    ensures text { result.now ≡ text_behind line.now later.now }
+fn text_after<'a>(line: &[u8], later: &'a [u8]) -> &'a [u8]
+    ensures text { result.now ≡ text_after line.now later.now }
     ensures within { length result.now ≤ length later.now }
 {
     if is_open(line) {

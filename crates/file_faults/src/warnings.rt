@@ -6,7 +6,7 @@ ghost use Rattle.room_warnings.specs.Json.{warning_data};
 ghost use Rattle.file_faults.specs.Json.{enough_in};
 ghost use Rattle.file_faults.specs.Walks.{left_after, said_if_left};
 ghost use Rattle.file_faults.specs.declared.warnings.TheConstants.{EMPTY_FILE};
-ghost use Rattle.file_faults.specs.Warnings.{block_warnings, empty_warning, file_warnings, next_part, part_behind, part_warnings, warnings_said};
+ghost use Rattle.file_faults.specs.Warnings.{block_warnings, empty_warning, file_warnings, next_part, part_after, part_warnings, warnings_said};
 
 use crate::scripts::{begins_with_block, block_extent, block_in_front};
 use crate::walk::write_part;
@@ -45,7 +45,7 @@ pub(crate) fn warnings_said(alloc: Global, json: bool, input: &[u8]) -> Result<T
         };
         left = fewer;
         number = next_part(number, rest);
-        rest = part_behind(rest);
+        rest = part_after(rest);
     }
     Ok(output)
 }
@@ -133,8 +133,8 @@ fn next_part(number: u64, text: &[u8]) -> u64
 }
 
 /// What comes after the block or the line with which a text begins.
-fn part_behind(text: &[u8]) -> &[u8]
-    ensures text { result.now ≡ part_behind text.now }
+fn part_after(text: &[u8]) -> &[u8]
+    ensures text { result.now ≡ part_after text.now }
     ensures shorter { 0 < length text.now → length result.now < length text.now }
 {
     let (_, later) = split_line(text);

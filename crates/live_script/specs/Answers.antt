@@ -10,7 +10,7 @@ use Rattle.room_files.specs.declared.fault.TextFault.{TextFault}
 use Rattle.room_files.specs.declared.outcome.Outcome.{Outcome}
 use Rattle.script_play.specs.Script.{Entry}
 use Rattle.script_play.specs.Following.{Leaves}
-use Rattle.script_play.specs.Play.{AreReplies, Done, Faulty, IsDone, Replied, Unread, commands_of, done_text, ending_if, is_lacking, is_refused, replies_in}
+use Rattle.script_play.specs.Play.{AreReplies, Done, Faulty, IsDone, Replied, Unread, commands_of, done_text, ending_if, ran_out_of_memory, is_refused, replies_in}
 use Rattle.live_script.specs.Entries.{Piece, Line, Block, asked_by, line_after}
 use Rattle.live_script.specs.declared.live.TheConstants.{MAX_ROOMS}
 
@@ -102,7 +102,7 @@ pub record AreLive (pieces : List Piece) (answers : List Answer) : Type 0 where
 -- ---- the end
 
 abbrev pub is_out_of_memory : Answer → Bool
-is_out_of_memory (Did done) = is_lacking done
+is_out_of_memory (Did done) = ran_out_of_memory done
 is_out_of_memory (Malformed line fault) = false
 is_out_of_memory (Crowded line) = false
 

@@ -7,7 +7,7 @@ use Rattle.io_text.specs.declared.fault.DeviceFault.TheVariants.{Read, Write, To
 use Rattle.room_files.specs.declared.outcome.Outcome.{Outcome}
 use Rattle.room_files.specs.declared.outcome.Outcome.TheVariants.{AllWell}
 use Rattle.script_play.specs.Following.{Leaves}
-use Rattle.script_play.specs.Play.{Done, HasRun, commands_of, done_text, ending_at_refusal, ending_with, is_lacking, is_refused, replies_in}
+use Rattle.script_play.specs.Play.{Done, HasRun, commands_of, done_text, ending_at_refusal, ending_with, ran_out_of_memory, is_refused, replies_in}
 use Rattle.live_script.specs.Entries.{AreWhole, IsBegun, IsTooLong, IsWhole, Piece, last_piece, last_pieces, line_after, piece_text, pieces_text}
 use Rattle.live_script.specs.Answers.{Answer, AreAnswers, AreLive, IsAnswer, LeavesRooms, all_done, answer_text, answers_text, ending_of, is_out_of_memory, has_refused, long_text, open_by, open_with}
 use Rattle.live_script.specs.declared.live.Live.{Live}
@@ -97,7 +97,7 @@ pub record IsTaken (done : Done) (before after : Live) : Type 0 where
   pub says : after.output ≡ done_text done
   pub open_is : after.opened ≡ open_with before.opened done
   pub line_is : after.line ≡ before.line
-  pub ends : after.ending ≡ ending_with (is_lacking done) (is_refused done) before.ending
+  pub ends : after.ending ≡ ending_with (ran_out_of_memory done) (is_refused done) before.ending
 
 -- An entry was refused, which this text says, and nothing was done.
 pub record IsRefused (text : List ℕ) (before after : Live) : Type 0 where

@@ -8,7 +8,7 @@ use io_text::Text;
 use itoa::write_digits;
 use std::alloc::AllocError;
 
-/// Writes a number alone.
+/// Writes a number and nothing else.
 ///
 /// # Errors
 ///

@@ -10,6 +10,6 @@ mod svg;
 
 pub use attributes::write_decimal;
 pub use colour::Colour;
-pub use shape::{Anchor, Dashes, Face, Font, Frame, Point, Shape};
+pub use shape::{Anchor, Dashes, Face, Font, Frame, Point, Shape, Stroke};
 pub use sheet::Sheet;
 pub use svg::{Size, write_part, write_svg};

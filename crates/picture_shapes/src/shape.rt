@@ -55,6 +55,28 @@ pub enum Dashes {
     Long,
 }
 
+/// How a line or an outline is drawn.
+#[derive(Clone, Copy)]
+pub struct Stroke {
+    pub colour: Colour,
+    pub dashes: Dashes,
+}
+
+impl Stroke {
+    ghost use Rattle.picture_shapes.specs.declared.shape.Dashes.TheVariants.{Solid};
+
+    /// Without gaps.
+    pub fn solid(colour: Colour) -> Stroke
+        ensures colour { result.colour ≡ colour }
+        ensures dashes { result.dashes ≡ Solid }
+    {
+        Stroke {
+            colour,
+            dashes: Dashes::Solid,
+        }
+    }
+}
+
 /// How letters look.
 #[derive(Clone, Copy)]
 pub enum Face {

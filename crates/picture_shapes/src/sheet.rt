@@ -3,7 +3,7 @@ ghost use Rattle.std.specs.Prelude.{◌≡◌, ◌++◌, ◌∷◌, [], IfOk, On
 ghost use Rattle.picture_shapes.specs.declared.shape.Shape.TheVariants.{Area as AreaOf, Hint as HintOf, Label as LabelOf, Line as LineOf};
 
 use crate::colour::Colour;
-use crate::shape::{Dashes, Font, Frame, Point, Shape};
+use crate::shape::{Font, Frame, Point, Shape, Stroke};
 use io_text::Text;
 use std::alloc::{AllocError, Global};
 use std::marker::Model;
@@ -76,17 +76,16 @@ impl Sheet {
         frame: Frame,
         corner: u8,
         fill: Colour,
-        outline: Colour,
-        dashes: Dashes,
+        outline: Stroke,
     ) -> Result<(), AllocError>
-        ensures { OnOk result (self.new ≡ self.old ++ AreaOf frame corner fill outline dashes ∷ []) }
+        ensures { OnOk result (self.new ≡ self.old ++ AreaOf frame corner fill outline.colour outline.dashes ∷ []) }
     {
         self.add(Shape::Area {
             frame,
             corner,
             fill,
-            outline,
-            dashes,
+            outline: outline.colour,
+            dashes: outline.dashes,
         })
     }
 
@@ -96,17 +95,16 @@ impl Sheet {
         from: Point,
         to: Point,
         width: u8,
-        colour: Colour,
-        dashes: Dashes,
+        stroke: Stroke,
     ) -> Result<(), AllocError>
-        ensures { OnOk result (self.new ≡ self.old ++ LineOf from to width colour dashes ∷ []) }
+        ensures { OnOk result (self.new ≡ self.old ++ LineOf from to width stroke.colour stroke.dashes ∷ []) }
     {
         self.add(Shape::Line {
             from,
             to,
             width,
-            colour,
-            dashes,
+            colour: stroke.colour,
+            dashes: stroke.dashes,
         })
     }
 

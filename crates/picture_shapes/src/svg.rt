@@ -8,7 +8,7 @@ use crate::attributes::{
     write_standing, write_value,
 };
 use crate::colour::Colour;
-use crate::shape::{Dashes, Font, Frame, Point, Shape};
+use crate::shape::{Font, Frame, Point, Shape, Stroke};
 use io_text::Text;
 use std::alloc::AllocError;
 
@@ -95,14 +95,26 @@ fn write_shape(output: &mut Text, shape: &Shape) -> Result<(), AllocError>
             fill,
             outline,
             dashes,
-        } => write_area(output, *frame, *corner, *fill, *outline, *dashes),
+        } => {
+            let outline = Stroke {
+                colour: *outline,
+                dashes: *dashes,
+            };
+            write_area(output, *frame, *corner, *fill, outline)
+        }
         Shape::Line {
             from,
             to,
             width,
             colour,
             dashes,
-        } => write_line(output, *from, *to, *width, *colour, *dashes),
+        } => {
+            let stroke = Stroke {
+                colour: *colour,
+                dashes: *dashes,
+            };
+            write_line(output, *from, *to, *width, stroke)
+        }
         Shape::Label {
             at,
             font,
@@ -119,24 +131,23 @@ fn write_area(
     frame: Frame,
     corner: u8,
     fill: Colour,
-    outline: Colour,
-    dashes: Dashes,
+    outline: Stroke,
 ) -> Result<(), AllocError>
-    ensures { OnOk result (output.new ≡ output.old ++ area frame corner fill outline dashes) }
+    ensures { OnOk result (output.new ≡ output.old ++ area frame corner fill outline.colour outline.dashes) }
 {
     output.put(b"<rect")?;
     write_framed(output, frame)?;
     write_number(output, b" rx", u64::from(corner))?;
     write_paint(output, b" fill", fill)?;
-    end_stroked(output, outline, dashes)
+    end_stroked(output, outline)
 }
 
 #[tactic(auto, unfolding(crate::specs::Shapes::stroked))]
-fn end_stroked(output: &mut Text, outline: Colour, dashes: Dashes) -> Result<(), AllocError>
-    ensures { OnOk result (output.new ≡ output.old ++ stroked outline dashes) }
+fn end_stroked(output: &mut Text, stroke: Stroke) -> Result<(), AllocError>
+    ensures { OnOk result (output.new ≡ output.old ++ stroked stroke.colour stroke.dashes) }
 {
-    write_paint(output, b" stroke", outline)?;
-    output.put_two(dashes.text(), b"/>\n")
+    write_paint(output, b" stroke", stroke.colour)?;
+    output.put_two(stroke.dashes.text(), b"/>\n")
 }
 
 #[tactic(auto, unfolding(crate::specs::Shapes::line))]
@@ -145,15 +156,14 @@ fn write_line(
     from: Point,
     to: Point,
     width: u8,
-    colour: Colour,
-    dashes: Dashes,
+    stroke: Stroke,
 ) -> Result<(), AllocError>
-    ensures { OnOk result (output.new ≡ output.old ++ line from to width colour dashes) }
+    ensures { OnOk result (output.new ≡ output.old ++ line from to width stroke.colour stroke.dashes) }
 {
     output.put(b"<line")?;
     write_ends(output, from, to)?;
     write_line_width(output, width)?;
-    end_stroked(output, colour, dashes)
+    end_stroked(output, stroke)
 }
 
 #[tactic(auto, unfolding(crate::specs::Shapes::line_width))]

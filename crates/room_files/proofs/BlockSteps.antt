@@ -15,7 +15,7 @@ use Rattle.room_spec.specs.Grammar.{EndsAt, text_of}
 use Rattle.history_checker.specs.Verdicts.{has_room}
 use Rattle.room_files.specs.Blocks.{Setup, refuse, open_room, after_block, block_extent, or_all, IsFaultOr}
 use Rattle.room_files.specs.Faults.{FaultAt}
-use Rattle.room_files.specs.Inputs.{all_blocks_from, blocks_from, events_behind, BeginsWithBlock}
+use Rattle.room_files.specs.Inputs.{all_blocks_from, blocks_from, later_events, BeginsWithBlock}
 use Rattle.room_files.specs.declared.fault.InputFault.{InputFault}
 use Rattle.room_files.specs.declared.fault.InputFault.TheVariants.{BadInput, Memory}
 
@@ -81,7 +81,7 @@ begins input rest len (inl same) other found = subst BeginsWithBlock same (other
 begins input rest len (inr before) other found = before
 
 -- a fault of the blocks is that of the whole input
-pub blocks_fault : (input : List ℕ) (read : Result (Setup × List ℕ) FaultAt) (fault : InputFault) → IsFaultOr (BeginsWithBlock input) read fault → IsFaultOr (BeginsWithBlock input ⊎ IsOk (events_behind read)) (events_behind read) fault
+pub blocks_fault : (input : List ℕ) (read : Result (Setup × List ℕ) FaultAt) (fault : InputFault) → IsFaultOr (BeginsWithBlock input) read fault → IsFaultOr (BeginsWithBlock input ⊎ IsOk (later_events read)) (later_events read) fault
 blocks_fault input read (BadInput line fault) bad = rw bad refl
 blocks_fault input read Memory bad = inl bad
 

@@ -24,8 +24,8 @@ use Rattle.room_files.specs.Blocks.{Setup, no_blocks, refuse, open_room, open_bl
 use Rattle.room_files.specs.Faults.{FaultAt}
 use Rattle.room_files.specs.declared.fault.TextFault.{TextFault}
 use Rattle.room_files.specs.declared.fault.TextFault.TheVariants.{NoEvents}
-use Rattle.room_files.specs.Inputs.{next_block, blocks_from, blocks_in, of_known_room, then_fed, fed_from, with_fed, events_behind, input_says}
-use Rattle.room_files.specs.LineNumbers.{number_behind, Refusal, refusal_line, IsBlockText, AreBlocks, NoBlock, Opened, NameTaken, Faulty, AreTold, NoLine, OneMore, IsBadLine, with_events, EndsEarly, IsNumbered}
+use Rattle.room_files.specs.Inputs.{next_block, blocks_from, blocks_in, of_known_room, then_fed, fed_from, with_fed, later_events, input_says}
+use Rattle.room_files.specs.LineNumbers.{number_after, Refusal, refusal_line, IsBlockText, AreBlocks, NoBlock, Opened, NameTaken, Faulty, AreReported, NoLine, OneMore, IsBadLine, with_events, EndsEarly, IsNumbered}
 use Rattle.room_files.proofs.LineLists.{first_and_later}
 
 -- ---- a text's lines
@@ -130,7 +130,7 @@ record Reached (input : List ℕ) (setup : Setup) (rest : List ℕ) : Type 0 whe
   lines : text_lines input ≡ blocks ++ text_lines rest
   are_blocks : AreBlocks blocks setup.rooms refused
   refused_lines : setup.refused ≡ flat_map refusal_line refused
-  number : setup.line ≡ number_behind blocks
+  number : setup.line ≡ number_after blocks
 
 -- what comes of one block more
 record Taken (setup now : Setup) (blocks : List (List ℕ)) (block : List ℕ) : Type 0 where
@@ -144,12 +144,12 @@ one_refused setup refused refusal before line =
     ap (λ (n : ℕ). setup.refused ++ refused_line n refusal.why) line ∙ ap (λ (text : List ℕ). text ++ refusal_line refusal) before
     ∙ ap (λ (text : List ℕ). flat_map refusal_line refused ++ text) (sym (append-nil (refusal_line refusal))) ∙ sym (flat_map-append refusal_line refused (refusal ∷ []))
 
-taken_room : (setup : Setup) (blocks : List (List ℕ)) (refused : List Refusal) (block : List ℕ) (room : RoomSpec) (len : ℕ) (has : Bool) → AreBlocks blocks setup.rooms refused → setup.refused ≡ flat_map refusal_line refused → setup.line ≡ number_behind blocks → IsBlockText block
+taken_room : (setup : Setup) (blocks : List (List ℕ)) (refused : List Refusal) (block : List ℕ) (room : RoomSpec) (len : ℕ) (has : Bool) → AreBlocks blocks setup.rooms refused → setup.refused ≡ flat_map refusal_line refused → setup.line ≡ number_after blocks → IsBlockText block
     → block_in block ≡ Ok (room, len) → has_room room.name setup.rooms ≡ has → Taken setup (open_room setup room) blocks block
 taken_room setup blocks refused block room len true are lines number text read has = rw has (record {
-  refused = refused ++ record { line = number_behind blocks; why = codes "41" } ∷ [];
+  refused = refused ++ record { line = number_after blocks; why = codes "41" } ∷ [];
   are_blocks = NameTaken blocks setup.rooms refused block room len are text read has;
-  refused_lines = one_refused setup refused (record { line = number_behind blocks; why = codes "41" }) lines number;
+  refused_lines = one_refused setup refused (record { line = number_after blocks; why = codes "41" }) lines number;
   line = refl;
 })
 taken_room setup blocks refused block room len false are lines number text read has = rw has (record {
@@ -159,13 +159,13 @@ taken_room setup blocks refused block room len false are lines number text read 
   line = refl;
 })
 
-taken : (setup : Setup) (blocks : List (List ℕ)) (refused : List Refusal) (block : List ℕ) (read : Result (RoomSpec × ℕ) SpecFault) → AreBlocks blocks setup.rooms refused → setup.refused ≡ flat_map refusal_line refused → setup.line ≡ number_behind blocks → IsBlockText block
+taken : (setup : Setup) (blocks : List (List ℕ)) (refused : List Refusal) (block : List ℕ) (read : Result (RoomSpec × ℕ) SpecFault) → AreBlocks blocks setup.rooms refused → setup.refused ≡ flat_map refusal_line refused → setup.line ≡ number_after blocks → IsBlockText block
     → block_in block ≡ read → Taken setup (open_block setup read) blocks block
 taken setup blocks refused block (Ok (room, len)) are lines number text read = taken_room setup blocks refused block room len (has_room room.name setup.rooms) are lines number text read refl
 taken setup blocks refused block (Err fault) are lines number text read = record {
-  refused = refused ++ record { line = number_behind blocks; why = fault_text fault } ∷ [];
+  refused = refused ++ record { line = number_after blocks; why = fault_text fault } ∷ [];
   are_blocks = Faulty blocks setup.rooms refused block fault are text read;
-  refused_lines = one_refused setup refused (record { line = number_behind blocks; why = fault_text fault }) lines number;
+  refused_lines = one_refused setup refused (record { line = number_after blocks; why = fault_text fault }) lines number;
   line = refl;
 }
 
@@ -193,7 +193,7 @@ record IsBehind (input : List ℕ) (setup : Setup) (transcript : List ℕ) : Typ
   lines : text_lines input ≡ with_events blocks ++ text_lines transcript
   are_blocks : AreBlocks blocks setup.rooms refused
   refused_lines : setup.refused ≡ flat_map refusal_line refused
-  number : setup.line ≡ number_behind (with_events blocks)
+  number : setup.line ≡ number_after (with_events blocks)
 
 abbrev BlocksSay : List ℕ → Result (Setup × List ℕ) FaultAt → Type 0
 BlocksSay input (Ok (setup, transcript)) = IsBehind input setup transcript
@@ -248,12 +248,12 @@ record IsBad (rooms : List RoomSpec) (before all : List (List ℕ)) (line : ℕ)
   bad : List ℕ
   more : List (List ℕ)
   parts : all ≡ events ++ bad ∷ more
-  told : AreTold rooms before events fed
-  number : line ≡ number_behind (before ++ events)
+  reported : AreReported rooms before events fed
+  number : line ≡ number_after (before ++ events)
   why : IsBadLine rooms bad fault
 
 abbrev EventsSay : List RoomSpec → List (List ℕ) → List (List ℕ) → Result (List FedEvent) FaultAt → Type 0
-EventsSay rooms before all (Ok fed) = AreTold rooms before all fed
+EventsSay rooms before all (Ok fed) = AreReported rooms before all fed
 EventsSay rooms before all (Err (line, fault)) = IsBad rooms before all line fault
 
 -- what one line more says
@@ -270,29 +270,29 @@ line_says rooms text line (Ok read) is = known_says rooms text line read (has_ro
 line_says rooms text line (Err fault) is = (refl, is)
 
 then_numbered : (rooms : List RoomSpec) (before lines : List (List ℕ)) (fed : List FedEvent) (line : ℕ) (text : List ℕ) (texts : List (List ℕ)) (later : List FedEvent → Result (List FedEvent) FaultAt) (said : Result FedEvent FaultAt)
-    → AreTold rooms before lines fed → line ≡ number_behind (before ++ lines) → LineSays rooms text line said
-    → ((more : List FedEvent) → AreTold rooms before (lines ++ text ∷ []) more → EventsSay rooms before ((lines ++ text ∷ []) ++ texts) (later more)) → EventsSay rooms before (lines ++ text ∷ texts) (then_fed later fed said)
-then_numbered rooms before lines fed line text texts later (Ok one) told number says on =
-    let one_is : record { name = says.0.0; event = says.0.1; line = number_behind (before ++ lines) } ≡ one = ap (λ (n : ℕ). record { name = says.0.0; event = says.0.1; line = n }) (sym number) ∙ sym says.3 in
-    let more : AreTold rooms before (lines ++ text ∷ []) (fed ++ one ∷ []) = subst (λ (f : FedEvent). AreTold rooms before (lines ++ text ∷ []) (fed ++ f ∷ [])) one_is (OneMore lines fed text says.0.0 says.0.1 told says.1 says.2) in
+    → AreReported rooms before lines fed → line ≡ number_after (before ++ lines) → LineSays rooms text line said
+    → ((more : List FedEvent) → AreReported rooms before (lines ++ text ∷ []) more → EventsSay rooms before ((lines ++ text ∷ []) ++ texts) (later more)) → EventsSay rooms before (lines ++ text ∷ texts) (then_fed later fed said)
+then_numbered rooms before lines fed line text texts later (Ok one) reported number says on =
+    let one_is : record { name = says.0.0; event = says.0.1; line = number_after (before ++ lines) } ≡ one = ap (λ (n : ℕ). record { name = says.0.0; event = says.0.1; line = n }) (sym number) ∙ sym says.3 in
+    let more : AreReported rooms before (lines ++ text ∷ []) (fed ++ one ∷ []) = subst (λ (f : FedEvent). AreReported rooms before (lines ++ text ∷ []) (fed ++ f ∷ [])) one_is (OneMore lines fed text says.0.0 says.0.1 reported says.1 says.2) in
     subst (λ (all : List (List ℕ)). EventsSay rooms before all (later (fed ++ one ∷ []))) (append_assoc lines (text ∷ []) texts) (on (fed ++ one ∷ []) more)
-then_numbered rooms before lines fed line text texts later (Err (at, fault)) told number says on = record {
+then_numbered rooms before lines fed line text texts later (Err (at, fault)) reported number says on = record {
   events = lines;
   fed = fed;
   bad = text;
   more = texts;
   parts = refl;
-  told = told;
+  reported = reported;
   number = says.0 ∙ number;
   why = says.1;
 }
 
-told_numbered : (rooms : List RoomSpec) (before lines : List (List ℕ)) (fed : List FedEvent) (line : ℕ) (texts : List (List ℕ)) → AreTold rooms before lines fed → line ≡ number_behind (before ++ lines) → EventsSay rooms before (lines ++ texts) (fed_from rooms fed line texts)
+reported_numbered : (rooms : List RoomSpec) (before lines : List (List ℕ)) (fed : List FedEvent) (line : ℕ) (texts : List (List ℕ)) → AreReported rooms before lines fed → line ≡ number_after (before ++ lines) → EventsSay rooms before (lines ++ texts) (fed_from rooms fed line texts)
 unfolding fed_from
-told_numbered rooms before lines fed line [] told number = subst (λ (all : List (List ℕ)). AreTold rooms before all fed) (sym (append-nil lines)) told
-told_numbered rooms before lines fed line (text ∷ texts) told number =
-    then_numbered rooms before lines fed line text texts (λ so_far. fed_from rooms so_far (line + 1) texts) (of_known_room rooms line (line_in text)) told number (line_says rooms text line (line_in text) refl)
-    (λ more now. told_numbered rooms before (lines ++ text ∷ []) more (line + 1) texts now (omega (arith, number, length-append before lines, length-append before (lines ++ text ∷ []), length-append lines (text ∷ []))))
+reported_numbered rooms before lines fed line [] reported number = subst (λ (all : List (List ℕ)). AreReported rooms before all fed) (sym (append-nil lines)) reported
+reported_numbered rooms before lines fed line (text ∷ texts) reported number =
+    then_numbered rooms before lines fed line text texts (λ so_far. fed_from rooms so_far (line + 1) texts) (of_known_room rooms line (line_in text)) reported number (line_says rooms text line (line_in text) refl)
+    (λ more now. reported_numbered rooms before (lines ++ text ∷ []) more (line + 1) texts now (omega (arith, number, length-append before lines, length-append before (lines ++ text ∷ []), length-append lines (text ∷ []))))
 
 -- ---- the whole input
 
@@ -304,7 +304,7 @@ whole_numbered input setup transcript behind (Ok fed) says = record {
   lines = behind.lines;
   are_blocks = behind.are_blocks;
   refused_lines = behind.refused_lines;
-  told = says;
+  reported = says;
 }
 whole_numbered input setup transcript behind (Err (line, fault)) says = inr (record {
   blocks = behind.blocks;
@@ -316,15 +316,15 @@ whole_numbered input setup transcript behind (Err (line, fault)) says = inr (rec
   more = says.more;
   lines = behind.lines ∙ ap (λ (l : List (List ℕ)). with_events behind.blocks ++ l) says.parts;
   are_blocks = behind.are_blocks;
-  told = says.told;
+  reported = says.reported;
   number = says.number;
   why = says.why;
 })
 
-events_numbered : (input : List ℕ) (read : Result (Setup × List ℕ) FaultAt) → BlocksSay input read → IsNumbered input (events_behind read)
+events_numbered : (input : List ℕ) (read : Result (Setup × List ℕ) FaultAt) → BlocksSay input read → IsNumbered input (later_events read)
 events_numbered input (Ok (setup, transcript)) behind =
     whole_numbered input setup transcript behind (fed_from setup.rooms [] setup.line (text_lines transcript))
-    (told_numbered setup.rooms (with_events behind.blocks) [] [] setup.line (text_lines transcript) NoLine (behind.number ∙ ap (λ (l : List (List ℕ)). number_behind l) (sym (append-nil (with_events behind.blocks)))))
+    (reported_numbered setup.rooms (with_events behind.blocks) [] [] setup.line (text_lines transcript) NoLine (behind.number ∙ ap (λ (l : List (List ℕ)). number_after l) (sym (append-nil (with_events behind.blocks)))))
 events_numbered input (Err (line, fault)) early = inl early
 
 pub input_numbered : (input : List ℕ) → IsNumbered input (input_says input)

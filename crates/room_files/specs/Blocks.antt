@@ -23,17 +23,17 @@ protocol_text code None = decimal code
 protocol_text code (Some at) = decimal code ++ (codes " " ++ decimal at)
 
 -- the numbers after a fault's code: its line, or what is wrong with the protocol
-abbrev pub numbers_behind : SpecFault → List ℕ
-numbers_behind (BadLine line) = codes " " ++ decimal line
-numbers_behind (BadProtocol fault) = codes " " ++ protocol_text (protocol_code fault) (place_of fault)
-numbers_behind (CrashLine line) = codes " " ++ decimal line
-numbers_behind (Repeated line) = codes " " ++ decimal line
-numbers_behind (TaskLine line) = codes " " ++ decimal line
-numbers_behind fault = []
+abbrev pub numbers_after : SpecFault → List ℕ
+numbers_after (BadLine line) = codes " " ++ decimal line
+numbers_after (BadProtocol fault) = codes " " ++ protocol_text (protocol_code fault) (place_of fault)
+numbers_after (CrashLine line) = codes " " ++ decimal line
+numbers_after (Repeated line) = codes " " ++ decimal line
+numbers_after (TaskLine line) = codes " " ++ decimal line
+numbers_after fault = []
 
 -- the fault's code and the numbers after it
 abbrev pub fault_text : SpecFault → List ℕ
-fault_text fault = decimal (block_code fault) ++ numbers_behind fault
+fault_text fault = decimal (block_code fault) ++ numbers_after fault
 
 abbrev pub refused_line : ℕ → List ℕ → List ℕ
 refused_line line fault = codes "line " ++ (decimal line ++ (codes " refused " ++ (fault ++ codes "\n")))

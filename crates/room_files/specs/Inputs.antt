@@ -57,13 +57,13 @@ abbrev pub with_fed : Setup → Result (List FedEvent) FaultAt → Result (Setup
 with_fed setup (Ok fed) = Ok (setup, fed)
 with_fed setup (Err fault) = Err fault
 
-abbrev pub events_behind : Result (Setup × List ℕ) FaultAt → Result (Setup × List FedEvent) FaultAt
-events_behind (Ok read) = with_fed read.0 (fed_from read.0.rooms [] read.0.line (text_lines read.1))
-events_behind (Err fault) = Err fault
+abbrev pub later_events : Result (Setup × List ℕ) FaultAt → Result (Setup × List FedEvent) FaultAt
+later_events (Ok read) = with_fed read.0 (fed_from read.0.rooms [] read.0.line (text_lines read.1))
+later_events (Err fault) = Err fault
 
 -- what an input says: its blocks and its events, or its first fault and the line of that
 abbrev pub input_says : List ℕ → Result (Setup × List FedEvent) FaultAt
-input_says input = events_behind (blocks_in input)
+input_says input = later_events (blocks_in input)
 
 -- the same with the number of the fault
 abbrev pub with_code : {A : Type 0} → Result A FaultAt → Result A (ℕ × ℕ)
@@ -74,7 +74,7 @@ with_code (Err fault) = Err (fault.0, text_code fault.1)
 abbrev pub MayLackMemory : List ℕ → Type 0
 MayLackMemory input = BeginsWithBlock input ⊎ IsOk (input_says input)
 
--- ---- an input that has blocks alone
+-- ---- an input that has only blocks
 
 -- what the blocks of a text say after those before it, at most this many; if it has no line `end`, all of it is a block
 unfoldable pub all_blocks_from : ℕ → Setup → List ℕ → Setup

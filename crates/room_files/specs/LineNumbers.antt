@@ -15,8 +15,8 @@ use Rattle.room_files.specs.declared.fault.TextFault.{TextFault}
 use Rattle.room_files.specs.declared.fault.TextFault.TheVariants.{BadEvent, NoRoom, NoCommand, NoEvents}
 
 -- the number of the line after these, which begin the input
-abbrev pub number_behind : List (List ℕ) → ℕ
-number_behind lines = suc (length lines)
+abbrev pub number_after : List (List ℕ) → ℕ
+number_after lines = suc (length lines)
 
 -- ---- the blocks
 
@@ -39,17 +39,17 @@ pub data AreBlocks : List (List ℕ) → List RoomSpec → List Refusal → Type
   Opened : (lines : List (List ℕ)) (rooms : List RoomSpec) (refused : List Refusal) (block : List ℕ) (room : RoomSpec) (len : ℕ) → AreBlocks lines rooms refused → IsBlockText block
       → block_in block ≡ Ok (room, len) → has_room room.name rooms ≡ false → AreBlocks (lines ++ text_lines block) (rooms ++ room ∷ []) refused
   NameTaken : (lines : List (List ℕ)) (rooms : List RoomSpec) (refused : List Refusal) (block : List ℕ) (room : RoomSpec) (len : ℕ) → AreBlocks lines rooms refused → IsBlockText block
-      → block_in block ≡ Ok (room, len) → has_room room.name rooms ≡ true → AreBlocks (lines ++ text_lines block) rooms (refused ++ record { line = number_behind lines; why = codes "41" } ∷ [])
+      → block_in block ≡ Ok (room, len) → has_room room.name rooms ≡ true → AreBlocks (lines ++ text_lines block) rooms (refused ++ record { line = number_after lines; why = codes "41" } ∷ [])
   Faulty : (lines : List (List ℕ)) (rooms : List RoomSpec) (refused : List Refusal) (block : List ℕ) (fault : SpecFault) → AreBlocks lines rooms refused → IsBlockText block
-      → block_in block ≡ Err fault → AreBlocks (lines ++ text_lines block) rooms (refused ++ record { line = number_behind lines; why = fault_text fault } ∷ [])
+      → block_in block ≡ Err fault → AreBlocks (lines ++ text_lines block) rooms (refused ++ record { line = number_after lines; why = fault_text fault } ∷ [])
 
 -- ---- the event lines
 
 -- After the lines `before`, which begin the input, come these lines, and each says an event of one of the rooms, with its own number.
-pub data AreTold (rooms : List RoomSpec) (before : List (List ℕ)) : List (List ℕ) → List FedEvent → Type 0 where
-  NoLine : AreTold rooms before [] []
-  OneMore : (lines : List (List ℕ)) (fed : List FedEvent) (line name : List ℕ) (event : Event) → AreTold rooms before lines fed → line_in line ≡ Ok (name, event) → has_room name rooms ≡ true
-      → AreTold rooms before (lines ++ line ∷ []) (fed ++ record { name = name; event = event; line = number_behind (before ++ lines) } ∷ [])
+pub data AreReported (rooms : List RoomSpec) (before : List (List ℕ)) : List (List ℕ) → List FedEvent → Type 0 where
+  NoLine : AreReported rooms before [] []
+  OneMore : (lines : List (List ℕ)) (fed : List FedEvent) (line name : List ℕ) (event : Event) → AreReported rooms before lines fed → line_in line ≡ Ok (name, event) → has_room name rooms ≡ true
+      → AreReported rooms before (lines ++ line ∷ []) (fed ++ record { name = name; event = event; line = number_after (before ++ lines) } ∷ [])
 
 -- the line is no event of one of the rooms: it has this fault
 abbrev pub IsBadLine : List RoomSpec → List ℕ → TextFault → Type 0
@@ -72,12 +72,12 @@ pub record IsSaid (input : List ℕ) (setup : Setup) (fed : List FedEvent) : Typ
   pub lines : text_lines input ≡ with_events blocks ++ events
   pub are_blocks : AreBlocks blocks setup.rooms refused
   pub refused_lines : setup.refused ≡ flat_map refusal_line refused
-  pub told : AreTold setup.rooms (with_events blocks) events fed
+  pub reported : AreReported setup.rooms (with_events blocks) events fed
 
 -- the input is blocks and a rest with no line `end` and no line `events` before it; the number is one more than the number of all lines
 pub record EndsEarly (input : List ℕ) (line : ℕ) (fault : TextFault) : Type 0 where
   pub fault_is : fault ≡ NoEvents
-  pub number : line ≡ number_behind (text_lines input)
+  pub number : line ≡ number_after (text_lines input)
   pub blocks : List (List ℕ)
   pub rooms : List RoomSpec
   pub refused : List Refusal
@@ -98,8 +98,8 @@ pub record HasBadLine (input : List ℕ) (line : ℕ) (fault : TextFault) : Type
   pub more : List (List ℕ)
   pub lines : text_lines input ≡ with_events blocks ++ (events ++ bad ∷ more)
   pub are_blocks : AreBlocks blocks rooms refused
-  pub told : AreTold rooms (with_events blocks) events fed
-  pub number : line ≡ number_behind (with_events blocks ++ events)
+  pub reported : AreReported rooms (with_events blocks) events fed
+  pub number : line ≡ number_after (with_events blocks ++ events)
   pub why : IsBadLine rooms bad fault
 
 -- what an input says, or the number and the fault of its first malformed line, by its lines

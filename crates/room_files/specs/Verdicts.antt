@@ -24,7 +24,7 @@ pub record Judged : Type 0 where
   -- whether the decisions keep the room's task, if it has one
   pub task : Option TaskVerdict
 
--- both rest on what was fed of the room alone
+-- both rest on nothing but what was fed of the room
 abbrev pub IsJustified : List FedEvent → Judged → Type 0
 IsJustified fed one = IsVerdict one.room (fed_to one.room.name fed) one.verdict × IsTaskAnswer one.room (fed_to one.room.name fed) one.task
 

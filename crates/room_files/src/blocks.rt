@@ -71,7 +71,7 @@ pub trait Refuses: Drop {
         ensures { OnOk result (lines self.new ≡ lines self.old ++ refused_line line (why_text fault)) };
 }
 
-/// A text takes the lines alone.
+/// A text takes only the lines.
 impl Refuses for Text {
     ghost lines = { λ text. text };
 

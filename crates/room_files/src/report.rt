@@ -2,7 +2,7 @@
 ghost use Rattle.std.specs.Prelude.{◌≡◌, ◌++◌, OnOk, codes, decimal};
 ghost use Rattle.protocol_lang.specs.Faults.{code_of};
 ghost use Rattle.protocol_lang.specs.FirstFaults.{place_of};
-ghost use Rattle.room_files.specs.Blocks.{fault_text, numbers_behind, protocol_text, refused_line};
+ghost use Rattle.room_files.specs.Blocks.{fault_text, numbers_after, protocol_text, refused_line};
 ghost use Rattle.room_files.specs.Reports.{task_line, verdict_line};
 
 use history_checker::{TaskVerdict, Verdict};
@@ -40,7 +40,7 @@ fn write_code(output: &mut Text, line: u64, code: u16) -> Result<(), AllocError>
 
 /// Writes the numbers after the code of a block's fault: its line, or what is wrong with the protocol.
 fn write_numbers(output: &mut Text, fault: SpecFault) -> Result<(), AllocError>
-    ensures { OnOk result (output.new ≡ output.old ++ numbers_behind fault) }
+    ensures { OnOk result (output.new ≡ output.old ++ numbers_after fault) }
 {
     match fault {
         SpecFault::BadLine(line)

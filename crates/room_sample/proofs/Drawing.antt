@@ -4,13 +4,13 @@ use Rattle.std.specs.Prelude.{IfOk}
 use Rattle.std.specs.declared.alloc.AllocError.{AllocError}
 use Rattle.rand_core.specs.Stream.{Stream}
 use Rattle.room_spec.specs.Rooms.{RoomSpec}
-use Rattle.room_core.specs.Calls.{room_after_settle}
+use Rattle.room_core.specs.Calls.{RoomState, opening_state, room_after_settle}
 use Rattle.room_core.specs.Fields.{Fields}
 use Rattle.room_core.specs.Reading.{AreFieldsOf}
 use Rattle.ws_history.specs.Reports.{report_of}
 use Rattle.room_sample.specs.Drawn.{Acts, Crashes, IsThrough, Walks, WalksInto, Way, active_from, aimed, burning, burnt, fuse_after, one_from, unburnt}
-use Rattle.room_sample.specs.Samples.{IsRunFrom}
-use Rattle.room_sample.specs.Schedules.{HasStopped, IsOutcome}
+use Rattle.room_sample.specs.Samples.{IsRunFrom, IsSettledFrom}
+use Rattle.room_sample.specs.Schedules.{HasStopped, IsOutcome, IsSchedule, crashes_in, settled_by}
 use Rattle.room_sample.specs.declared.active.Active.{Active}
 use Rattle.room_sample.specs.declared.active.Fuse.{Fuse}
 use Rattle.room_sample.specs.declared.active.Fuse.TheVariants.{After, Inside, Never}
@@ -85,3 +85,19 @@ run_from spec crashes random way (Ok run) schedule states drawn = record {
     | inr most ↦ inl most
   ];
 }
+
+-- the room of a run
+pub settled_from : (spec : RoomSpec) (crashes : ℕ) (random : Stream) (way : Way) (schedule : List Stretch) (room : RoomState) → IsThrough spec crashes random way → schedule ≡ way.schedule → room ≡ room_after_settle way.room
+    → IsSettledFrom spec crashes random schedule room
+settled_from spec crashes random way schedule room drawn same room_is =
+    let so = led_so spec crashes random drawn.draws way drawn.active drawn.later drawn.led in
+    record {
+      way = way;
+      drawn = drawn;
+      schedule_is = same;
+      settled = record {
+        may_come = subst (IsSchedule (opening_state spec)) (sym same) so.may_come;
+        few = subst (λ (s : List Stretch). crashes_in s ≤ crashes) (sym same) (let few = so.few in omega (arith, few));
+        room_is = room_is ∙ ap room_after_settle (sym so.leads) ∙ ap (λ (s : List Stretch). settled_by spec s) (sym same);
+      };
+    }

@@ -3,11 +3,15 @@ use Rattle.std.proofs.Common.{◌≡◌, ℕ, suc, ◌+◌, ◌%◌, List, [], �
 use Rattle.std.specs.Prelude.{slice_get}
 use Rattle.rand_core.specs.Stream.{Stream}
 use Rattle.room_spec.specs.Rooms.{IsWithinLimits, RoomSpec}
+use Rattle.room_core.specs.Calls.{RoomState}
+use Rattle.room_core.specs.Fields.{Fields}
+use Rattle.room_core.specs.Reading.{AreFieldsOf}
+use Rattle.ws_history.specs.Reports.{report_of}
 use Rattle.ws_history.specs.declared.states.ProcessState.{ProcessState}
 use Rattle.room_sample.specs.Chances.{random_of}
-use Rattle.room_sample.specs.Samples.{Counted, IsRunFrom, IsRunOf, IsSampleOf, Sampled, counted_all, number_at}
+use Rattle.room_sample.specs.Samples.{Counted, IsRunFrom, IsRunOf, IsSettledFrom, IsSampleOf, Sampled, counted_all, number_at}
 use Rattle.room_sample.specs.Drawn.{Way}
-use Rattle.room_sample.specs.Schedules.{IsOutcome}
+use Rattle.room_sample.specs.Schedules.{IsOutcome, settled_by}
 use Rattle.room_sample.specs.declared.sampling.Plan.{Plan}
 use Rattle.room_sample.specs.declared.stretch.Stretch.{Stretch}
 use Rattle.room_sample.proofs.AmongAll.{settled_fields}
@@ -25,6 +29,20 @@ pub run_same : (spec : RoomSpec) (crashes : ℕ) (random : Stream) (schedule sch
 run_same spec crashes random schedule schedule' states states' limits run run' =
     let same : schedule ≡ schedule' = run.schedule_is ∙ ap (λ (w : Way). w.schedule) (through_same spec crashes random run.way run'.way run.drawn run'.drawn) ∙ sym run'.schedule_is in
     (same, outcome_same spec crashes schedule' states states' limits (subst (λ (s : List Stretch). IsOutcome spec crashes s states) same run.outcome) run'.outcome)
+
+-- a stream has one room
+pub settled_same : (spec : RoomSpec) (crashes : ℕ) (random : Stream) (schedule schedule' : List Stretch) (room room' : RoomState) → IsSettledFrom spec crashes random schedule room → IsSettledFrom spec crashes random schedule' room' → (schedule ≡ schedule') × (room ≡ room')
+settled_same spec crashes random schedule schedule' room room' one other =
+    let same : schedule ≡ schedule' = one.schedule_is ∙ ap (λ (w : Way). w.schedule) (through_same spec crashes random one.way other.way one.drawn other.drawn) ∙ sym other.schedule_is in
+    (same, one.settled.room_is ∙ ap (λ (s : List Stretch). settled_by spec s) same ∙ sym other.settled.room_is)
+
+-- of which its run has the states
+pub settled_counted : (spec : RoomSpec) (crashes : ℕ) (random : Stream) (schedule schedule' : List Stretch) (room : RoomState) (states : List ProcessState) → IsSettledFrom spec crashes random schedule room → IsRunFrom spec crashes random schedule' states
+    → (schedule ≡ schedule') × ((fields : Fields) → AreFieldsOf room fields → states ≡ (report_of room.spec fields).states.items)
+settled_counted spec crashes random schedule schedule' room states one run =
+    let same : schedule ≡ schedule' = one.schedule_is ∙ ap (λ (w : Way). w.schedule) (through_same spec crashes random one.way run.way one.drawn run.drawn) ∙ sym run.schedule_is in
+    let room_is : room ≡ settled_by spec schedule' = one.settled.room_is ∙ ap (λ (s : List Stretch). settled_by spec s) same in
+    (same, subst (λ (r : RoomState). (fields : Fields) → AreFieldsOf r fields → states ≡ (report_of r.spec fields).states.items) (sym room_is) run.outcome.reported)
 
 -- the schedule of a place has one run
 placed_same : (spec : RoomSpec) (plan : Plan) (place : ℕ) (one other : Sampled) → IsWithinLimits spec → IsRunOf spec plan place one → IsRunOf spec plan place other → one ≡ other

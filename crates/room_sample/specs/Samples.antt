@@ -7,11 +7,12 @@ use Rattle.room_spec.specs.Rooms.{RoomSpec, processes}
 use Rattle.ws_history.specs.contracts.states.ProcessStatePartialEq.TheImpl.{ghosts}
 use Rattle.ws_history.specs.declared.states.ProcessState.{ProcessState}
 use Rattle.rand_core.specs.Stream.{Stream}
+use Rattle.room_core.specs.Calls.{RoomState}
 use Rattle.room_outcomes.specs.Ends.{ends_of}
 use Rattle.run_search.specs.Outcomes.{IsRunOutcome}
 use Rattle.room_sample.specs.Chances.{random_of}
 use Rattle.room_sample.specs.Drawn.{IsThrough, Way, most_draws}
-use Rattle.room_sample.specs.Schedules.{HasStopped, IsOutcome}
+use Rattle.room_sample.specs.Schedules.{HasStopped, IsOutcome, IsSettledAfter}
 use Rattle.room_sample.specs.declared.sampling.Plan.{Plan}
 use Rattle.room_sample.specs.declared.stretch.Stretch.{Stretch}
 use Rattle.room_sample.specs.declared.tally.Outcome.{Outcome}
@@ -54,6 +55,13 @@ pub record IsRunFrom (spec : RoomSpec) (crashes : ℕ) (random : Stream) (schedu
   pub schedule_is : schedule ≡ way.schedule
   pub outcome : IsOutcome spec crashes schedule states
   pub ends : (drawn.draws ≡ most_draws) ⊎ ((i : ℕ) → i < spec.simulators → HasStopped spec schedule i)
+
+-- The room of a run by a schedule that is drawn from a stream, once it has settled.
+pub record IsSettledFrom (spec : RoomSpec) (crashes : ℕ) (random : Stream) (schedule : List Stretch) (room : RoomState) : Type 0 where
+  pub way : Way
+  pub drawn : IsThrough spec crashes random way
+  pub schedule_is : schedule ≡ way.schedule
+  pub settled : IsSettledAfter spec crashes schedule room
 
 -- the number of the schedule of a place in a plan, from 0: after the greatest number comes 0
 abbrev pub number_at : Plan → ℕ → ℕ

@@ -3,12 +3,16 @@ ghost use Rattle.std.specs.Prelude.{◌≡◌, ℕ, ◌+◌, ◌<◌, ◌^◌, L
 ghost use Rattle.std.specs.List.{All, sum_by};
 ghost use Rattle.rand_core.specs.Stream.{Stream};
 ghost use Rattle.room_spec.specs.Rooms.{IsWithinLimits, RoomSpec, processes};
+ghost use Rattle.room_core.specs.Calls.{RoomState};
+ghost use Rattle.room_core.specs.Fields.{Fields};
+ghost use Rattle.room_core.specs.Reading.{AreFieldsOf};
+ghost use Rattle.ws_history.specs.Reports.{report_of};
 ghost use Rattle.ws_history.specs.declared.states.ProcessState.{ProcessState};
 ghost use Rattle.run_search.specs.Outcomes.{IsRunOutcome};
 ghost use Rattle.room_outcomes.specs.Ends.{ends_of};
 ghost use Rattle.room_sample.specs.Groups.{AreGroups, grouped};
 ghost use Rattle.room_sample.specs.Parts.{added_all};
-ghost use Rattle.room_sample.specs.Samples.{CameByFirst, Counted, IsRunFrom, IsSampleOf, number_at};
+ghost use Rattle.room_sample.specs.Samples.{CameByFirst, Counted, IsRunFrom, IsSampleOf, IsSettledFrom, number_at};
 ghost use Rattle.room_sample.specs.Schedules.{IsOutcome};
 ghost use Rattle.room_sample.specs.declared.sampling.Plan.{Plan};
 ghost use Rattle.room_sample.specs.declared.stretch.Stretch.{Stretch};
@@ -30,6 +34,15 @@ pub fn determined_runs()
     ensures { (spec : RoomSpec) (crashes : ℕ) (random : Stream) (schedule other : List Stretch) (states others : List ProcessState) →
         IsWithinLimits spec → IsRunFrom spec crashes random schedule states → IsRunFrom spec crashes random other others →
         (schedule ≡ other) × (states ≡ others) }
+{}
+
+/// The room that the run of a stream leads to is the one of which a sample counts the states: it is the only one, by the only schedule.
+pub fn settled_runs()
+    ensures determined { (spec : RoomSpec) (crashes : ℕ) (random : Stream) (schedule other : List Stretch) (room rooms : RoomState) →
+        IsSettledFrom spec crashes random schedule room → IsSettledFrom spec crashes random other rooms → (schedule ≡ other) × (room ≡ rooms) }
+    ensures counted { (spec : RoomSpec) (crashes : ℕ) (random : Stream) (schedule other : List Stretch) (room : RoomState) (states : List ProcessState) →
+        IsSettledFrom spec crashes random schedule room → IsRunFrom spec crashes random other states →
+        (schedule ≡ other) × ((fields : Fields) → AreFieldsOf room fields → states ≡ (report_of room.spec fields).states.items) }
 {}
 
 /// The same seed gives the same sample: if as many simulators may crash, as many schedules from the same number on give the same outcomes, as often, and in the same

@@ -7,6 +7,7 @@ mod cuts;
 mod entries;
 mod examples;
 pub mod laws;
+mod numbered;
 mod run;
 mod sampling;
 mod stretch;
@@ -14,6 +15,7 @@ mod tally;
 mod workers;
 
 pub use examples::{Example, PartialExamples, Showing, example_of, examples_of};
+pub use numbered::settled_by_number;
 pub use run::{Settled, settled_after};
 pub use sampling::{PartialSample, Plan, sample};
 pub use stretch::Stretch;

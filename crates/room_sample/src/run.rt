@@ -8,7 +8,7 @@ ghost use Rattle.room_core.specs.Reading.{AreFieldsOf};
 ghost use Rattle.ws_history.specs.Reports.{report_of};
 ghost use Rattle.room_sample.specs.Chances.{random_in};
 ghost use Rattle.room_sample.specs.Drawn.{Acts, Crashes, Draws, EntersBy, IsLed, IsScheduled, IsThrough, Walks, WalksInto, fuse_after, has_entered, is_look, opening_way, style_from};
-ghost use Rattle.room_sample.specs.Samples.{IsRunFrom};
+ghost use Rattle.room_sample.specs.Samples.{IsRunFrom, IsSettledFrom};
 ghost use Rattle.room_sample.specs.Schedules.{IsOutcome, IsSettledAfter, longest};
 ghost use Rattle.room_sample.specs.Ways.{way_of};
 
@@ -304,6 +304,22 @@ pub(crate) fn run_by(
     Ok(settled.run())
 }
 
+/// Runs a room of this spec by a random schedule, in which at most this many simulators crash.
+fn scheduled_by_chance(
+    alloc: Global,
+    spec: Spec,
+    chances: &mut Chances,
+    crashes: u32,
+) -> Result<Scheduled, AllocError>
+    ensures { IfOk result (λ scheduled. IsThrough spec crashes (random_in chances.old) (way_of scheduled)) }
+{
+    let style = random_style(chances);
+    let mut active = all_active(&spec, style, chances);
+    let mut scheduled = Scheduled::fresh(alloc, spec, crashes)?;
+    act_by_chance(&mut scheduled, style, &mut active, chances)?;
+    Ok(scheduled)
+}
+
 /// Runs a room of this spec by a random schedule, in which at most this many simulators crash, and settles it.
 pub(crate) fn run_by_chance(
     alloc: Global,
@@ -313,11 +329,21 @@ pub(crate) fn run_by_chance(
 ) -> Result<Run, AllocError>
     ensures { IfOk result (λ run. IsRunFrom spec crashes (random_in chances.old) run.schedule.items run.states.items) }
 {
-    let style = random_style(chances);
-    let mut active = all_active(&spec, style, chances);
-    let mut scheduled = Scheduled::fresh(alloc, spec, crashes)?;
-    act_by_chance(&mut scheduled, style, &mut active, chances)?;
+    let scheduled = scheduled_by_chance(alloc, spec, chances, crashes)?;
     Ok(scheduled.settled())
+}
+
+/// The same. Gives the room itself.
+pub(crate) fn settled_by_chance(
+    alloc: Global,
+    spec: Spec,
+    chances: &mut Chances,
+    crashes: u32,
+) -> Result<Settled, AllocError>
+    ensures { IfOk result (λ settled. IsSettledFrom spec crashes (random_in chances.old) settled.schedule.items settled.room) }
+{
+    let scheduled = scheduled_by_chance(alloc, spec, chances, crashes)?;
+    Ok(scheduled.settle())
 }
 
 /// Opens the room of a spec, and runs it by one random schedule.

@@ -52,21 +52,31 @@ pub fn close(alloc: Global, room: RuledRoom, keeper: Keeper) -> Result<RoomCore,
     }
 }
 
-/// Drives simulator `i` until it stops, and takes it back, as crashed if that is asked for. Gives why it stopped.
+/// How long a simulator is driven, and whether it is taken back as crashed.
+#[derive(Drop)]
+pub struct Drive {
+    pub fuse: Fuse,
+    pub crashes: bool,
+}
+
+/// Drives simulator `i` until it stops, and takes it back. Gives why it stopped.
 pub fn drive_one<G: Gate>(
     room: &RuledRoom,
     keeper: &mut Keeper,
     i: usize,
-    fuse: Fuse,
-    crashes: bool,
+    how: Drive,
     gate: &G,
 ) -> Result<&'static str, Fail>
     requires { keeper.old.room ≡ room.now }
     ensures { keeper.new.room ≡ keeper.old.room }
 {
     let mut simulator = give(keeper, room, i)?;
-    let stop = drive(&mut simulator, room, &fuse, gate);
-    let end = if crashes { Stop::Crashed } else { Stop::Idle };
+    let stop = drive(&mut simulator, room, &how.fuse, gate);
+    let end = if how.crashes {
+        Stop::Crashed
+    } else {
+        Stop::Idle
+    };
     keeper.take_back(room, simulator, end);
     Ok(reason(stop))
 }

@@ -1,7 +1,7 @@
 //! Rooms on shared words: stepped in one order as rooms on words of their own, and by two threads at the same time.
 ghost use Rattle.std.specs.Prelude.{◌≡◌, IfOk};
 
-use crate::fixture::{FULL, PAIR, close, drive_one, fresh, give, spec, state_of, word_at};
+use crate::fixture::{Drive, FULL, PAIR, close, drive_one, fresh, give, spec, state_of, word_at};
 use room_core::{RoomCore, StepReply};
 use ruled_room::{Gone, Keeper, RuledRoom, Simulator, Stop};
 use scheduler::{FreeGate, Fuse, drive};
@@ -38,7 +38,11 @@ fn follow(room: &RuledRoom, keeper: &mut Keeper, order: &[Stretch]) -> Result<()
     ensures { keeper.new.room ≡ keeper.old.room }
 {
     for (i, most, crashes) in order {
-        drive_one(room, keeper, *i, Fuse::after(*most), *crashes, &FreeGate)?;
+        let how = Drive {
+            fuse: Fuse::after(*most),
+            crashes: *crashes,
+        };
+        drive_one(room, keeper, *i, how, &FreeGate)?;
     }
     Ok(())
 }

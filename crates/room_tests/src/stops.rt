@@ -1,7 +1,7 @@
 //! Where the turns of a simulator end, and why it stops.
 ghost use Rattle.std.specs.Prelude.{◌≡◌};
 
-use crate::fixture::{FULL, PAIR, close, drive_one, fresh, give, reason, state_of};
+use crate::fixture::{Drive, FULL, PAIR, close, drive_one, fresh, give, reason, state_of};
 use crate::workers::Watch;
 use room_core::RoomCore;
 use ruled_room::{RuledRoom, Simulator};
@@ -65,7 +65,11 @@ fn driven<G: Gate>(
     gate: &G,
 ) -> Result<(RoomCore, &'static str), Fail> {
     let (room, mut keeper) = fresh(alloc, text)?;
-    let stop = drive_one(&room, &mut keeper, i, fuse, false, gate)?;
+    let how = Drive {
+        fuse,
+        crashes: false,
+    };
+    let stop = drive_one(&room, &mut keeper, i, how, gate)?;
     Ok((close(alloc, room, keeper)?, stop))
 }
 

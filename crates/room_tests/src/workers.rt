@@ -97,16 +97,15 @@ fn specs(alloc: Global, text: &str, count: usize) -> Result<Vec<Spec>, Fail> {
     Ok(specs)
 }
 
-/// The results of this many rooms of the same text, which these workers run.
+/// The results of rooms of one text, as many as the number with it, which these workers run.
 fn ran<R: Threads + Wait + Sync, G: Gate + Sync>(
     rt: &R,
     alloc: Global,
-    text: &str,
-    count: usize,
+    rooms: (&str, usize),
     workers: u8,
     gate: &G,
 ) -> Result<Vec<RoomResult>, Fail> {
-    match run_rooms(rt, alloc, specs(alloc, text, count)?, workers, gate) {
+    match run_rooms(rt, alloc, specs(alloc, rooms.0, rooms.1)?, workers, gate) {
         Ok(results) => Ok(results),
         Err(fault) => Err(Fail::from(("no results, but the fault", fault.code()))),
     }
@@ -130,7 +129,7 @@ fn lines(alloc: Global, name: &Name, report: &Report) -> Result<String, Fail> {
 /// The lines of the history of the pair, of which one of two workers was held until the other had reached its second visit.
 fn held_pair<R: Threads + Wait + Sync>(rt: &R, alloc: Global, held: u64) -> Result<String, Fail> {
     let gate = Watch::new(held, 3);
-    let results = ran(rt, alloc, PAIR, 1, 2, &gate)?;
+    let results = ran(rt, alloc, (PAIR, 1), 2, &gate)?;
     let [result] = results.as_slice() else {
         return Err(Fail::from("one room"));
     };
@@ -166,7 +165,7 @@ fn all_come<R: Threads + Wait + Sync>(
     all: u64,
 ) -> Result<bool, Fail> {
     let gate = Watch::new(all, u64::from(workers));
-    let results = ran(rt, alloc, ONE, 16, workers, &gate)?;
+    let results = ran(rt, alloc, (ONE, 16), workers, &gate)?;
     Ok(
         gate.has_come(all)
             && results.len() == 16
@@ -203,7 +202,7 @@ fn first_after<R: Threads + Wait + Sync>(
     seen: (u64, u64, u64),
 ) -> Result<Option<(u64, u64, bool)>, Fail> {
     let gate = Watch::new(0, 0);
-    let results = ran(rt, alloc, rooms.0, rooms.1, workers, &gate)?;
+    let results = ran(rt, alloc, rooms, workers, &gate)?;
     if !gate.has_seen(seen.0, seen.1, seen.2) {
         return Err(Fail::from("these visits"));
     }
@@ -244,7 +243,7 @@ fn numbers_of_workers(rt: HostRuntime) -> Result<(), Fail> {
             assert!(rt; refused(&rt, rt.alloc(), count, workers)? == Some(50));
         }
     }
-    assert!(rt; ran(&rt, rt.alloc(), PAIR, 0, 1, &FreeGate)?.is_empty());
+    assert!(rt; ran(&rt, rt.alloc(), (PAIR, 0), 1, &FreeGate)?.is_empty());
     let codes = (RunFault::Spawn.code(), RunFault::OutOfMemory.code());
     assert!(rt; codes.0 == 51 && codes.1 == 8);
     let texts = format!(in rt.alloc(); "{}, {}", RunFault::Workers, RunFault::OutOfMemory)?;

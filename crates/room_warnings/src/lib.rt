@@ -1,5 +1,5 @@
 //! What a valid room may have that no fault covers and that its author can hardly have meant: calls that are always 0, rules that are never
-//! used, a protocol that never decides, one process alone, and too few turns for a simulator that runs alone.
+//! used, a protocol that never decides, a single process, and too few turns for a simulator that runs alone.
 #![tactic(auto)]
 
 mod calls;

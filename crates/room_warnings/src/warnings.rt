@@ -87,7 +87,7 @@ fn write_number_warnings(
     write_turns_warning(format, output, room, sentence)
 }
 
-/// Writes that a room has one process alone, if it has, about the line of its inputs.
+/// Writes that a room has a single process, if it has, about the line of its inputs.
 fn write_inputs_warning(
     format: Format,
     output: &mut Text,

@@ -1,7 +1,7 @@
 -- At most one proposal of an agreement is chosen.
 use Rattle.std.proofs.Common.{◌≡◌, ◌∙◌, ℕ, ◌==◌, Bool, true, false, cond, List, Option, Some, None, refl, sym, arith}
 use Rattle.transcript.specs.declared.event.Event.{Event}
-use Rattle.run_columns.specs.declared.mark.Deed.TheVariants.{Withdraw}
+use Rattle.run_columns.specs.declared.mark.StepKind.TheVariants.{Withdraw}
 use Rattle.run_columns.specs.declared.mark.Mark.{Mark}
 use Rattle.run_columns.specs.declared.proposals.Agreement.{Agreement}
 use Rattle.run_columns.specs.declared.proposals.Fate.{Fate}

@@ -2,8 +2,8 @@
 use Rattle.std.specs.Prelude.{◌≡◌, ⊤, ℕ, ◌+◌, ◌-◌, ◌^◌, Bool, false, not, ◌&&◌, ◌==◌, nat_le, List, [], ◌∷◌, length, min, take, if◌then◌else◌}
 use Rattle.simulator.specs.declared.turn.Turn.{Turn}
 use Rattle.simulator.specs.declared.turn.Turn.TheVariants.{Still}
-use Rattle.run_columns.specs.declared.mark.Deed.{Deed}
-use Rattle.run_columns.specs.declared.mark.Deed.TheVariants.{StoreWrite, CountWrite, Snapshot, Propose, Enter, Look, Stand, Withdraw, Ask, LoadView, LoadValue, Decide}
+use Rattle.run_columns.specs.declared.mark.StepKind.{StepKind}
+use Rattle.run_columns.specs.declared.mark.StepKind.TheVariants.{StoreWrite, CountWrite, Snapshot, Propose, Enter, Look, Stand, Withdraw, Ask, LoadView, LoadValue, Decide}
 use Rattle.run_columns.specs.declared.mark.Step.{Step as StepMark}
 use Rattle.run_columns.specs.declared.mark.Mark.{Mark}
 use Rattle.run_columns.specs.declared.mark.Mark.TheVariants.{Step, Crash}
@@ -31,22 +31,22 @@ joins scale (Crash simulator) mark = false
 
 -- ---- what a column shows
 
-abbrev pub change_by_deed : Deed → Change
-change_by_deed StoreWrite = Nothing
-change_by_deed CountWrite = Nothing
-change_by_deed Snapshot = Nothing
-change_by_deed Propose = Nothing
-change_by_deed Enter = Enters
-change_by_deed Look = Nothing
-change_by_deed Stand = Leaves
-change_by_deed Withdraw = Leaves
-change_by_deed Ask = Nothing
-change_by_deed LoadView = Nothing
-change_by_deed LoadValue = Nothing
-change_by_deed Decide = Nothing
+abbrev pub change_by_kind : StepKind → Change
+change_by_kind StoreWrite = Nothing
+change_by_kind CountWrite = Nothing
+change_by_kind Snapshot = Nothing
+change_by_kind Propose = Nothing
+change_by_kind Enter = Enters
+change_by_kind Look = Nothing
+change_by_kind Stand = Leaves
+change_by_kind Withdraw = Leaves
+change_by_kind Ask = Nothing
+change_by_kind LoadView = Nothing
+change_by_kind LoadValue = Nothing
+change_by_kind Decide = Nothing
 
 abbrev pub change_by : Mark → Change
-change_by (Step step) = change_by_deed step.deed
+change_by (Step step) = change_by_kind step.kind
 change_by (Crash simulator) = Crashes
 
 -- a change, and one after it

@@ -3,16 +3,16 @@ use Rattle.std.specs.Prelude.{ℕ, ◌+◌, ◌-◌, nat_le, nat_lt, List, [], �
 use Rattle.transcript.specs.declared.event.Event.{Event}
 use Rattle.transcript.specs.declared.event.Event.TheVariants.{Write, Snap, Decide as Decision}
 use Rattle.run_columns.specs.declared.column.Column.{Column}
-use Rattle.run_columns.specs.declared.mark.Deed.{Deed}
-use Rattle.run_columns.specs.declared.mark.Deed.TheVariants.{CountWrite, Snapshot, Stand, Decide}
+use Rattle.run_columns.specs.declared.mark.StepKind.{StepKind}
+use Rattle.run_columns.specs.declared.mark.StepKind.TheVariants.{CountWrite, Snapshot, Stand, Decide}
 use Rattle.run_columns.specs.declared.mark.Mark.{Mark}
 use Rattle.run_columns.specs.declared.sought.Sought.{Sought}
 use Rattle.run_columns.specs.Columns.{simulator_of}
 use Rattle.run_columns.specs.Sought.{column_at, is_sought, steps_of}
 
 -- the steps that do this for a process in a round
-abbrev pub by_any : Deed → ℕ → ℕ → Sought
-by_any deed process round = record { deed = deed; process = process; round = round; simulator = None; word = None }
+abbrev pub by_any : StepKind → ℕ → ℕ → Sought
+by_any kind process round = record { kind = kind; process = process; round = round; simulator = None; word = None }
 
 abbrev pub first_in : List ℕ → Option ℕ
 first_in [] = None
@@ -22,8 +22,8 @@ first_in (step ∷ steps) = Some step
 abbrev pub from_end : ℕ → List ℕ → Option ℕ
 from_end back steps = if nat_lt back (length steps) then Some (slice_index_or steps (length steps - 1 - back) 0) else None
 
-abbrev pub first_step : Deed → ℕ → ℕ → List Mark → Option ℕ
-first_step deed process round marks = first_in (steps_of (by_any deed process round) marks)
+abbrev pub first_step : StepKind → ℕ → ℕ → List Mark → Option ℕ
+first_step kind process round marks = first_in (steps_of (by_any kind process round) marks)
 
 -- ---- snapshots
 
@@ -44,7 +44,7 @@ last_word words = if nat_le words 1 then None else Some (words - 1)
 
 abbrev pub reads_by : ℕ → ℕ → ℕ → ℕ → Sought
 reads_by words simulator process round =
-    record { deed = Snapshot; process = process; round = round; simulator = Some simulator; word = last_word words }
+    record { kind = Snapshot; process = process; round = round; simulator = Some simulator; word = last_word words }
 
 -- Of several words the last collect found what the one before it did; what both show was there at the end of the first of the two.
 abbrev pub read_step : ℕ → ℕ → ℕ → List Mark → Option ℕ → Option ℕ

@@ -1,5 +1,5 @@
 pub mod Columns
-pub mod Deeds
+pub mod StepKinds
 pub mod Seen
 pub mod Sought
 pub mod Effects

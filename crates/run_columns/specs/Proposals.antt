@@ -4,8 +4,8 @@ use Rattle.std.specs.List.{filter, list_any}
 use Rattle.room_spec.specs.declared.spec.TheConstants.{MAX_MEMORY_WORDS}
 use Rattle.transcript.specs.declared.event.Event.{Event}
 use Rattle.transcript.specs.declared.event.Event.TheVariants.{Write, Snap, Decide}
-use Rattle.run_columns.specs.declared.mark.Deed.{Deed}
-use Rattle.run_columns.specs.declared.mark.Deed.TheVariants.{Look, Propose, Stand, Withdraw}
+use Rattle.run_columns.specs.declared.mark.StepKind.{StepKind}
+use Rattle.run_columns.specs.declared.mark.StepKind.TheVariants.{Look, Propose, Stand, Withdraw}
 use Rattle.run_columns.specs.declared.mark.Mark.{Mark}
 use Rattle.run_columns.specs.declared.mark.Mark.TheVariants.{Step, Crash}
 use Rattle.run_columns.specs.declared.mark.Step.{Step as StepMark}
@@ -18,11 +18,11 @@ use Rattle.run_columns.specs.Effects.{by_any, chosen}
 use Rattle.run_columns.specs.Sought.{is_sought, is_sought_step}
 
 -- the steps by which a simulator does this in an agreement
-abbrev pub by_one : Agreement → Deed → ℕ → Sought
-by_one agreement deed simulator = record { deed = deed; process = agreement.process; round = agreement.round; simulator = Some simulator; word = None }
+abbrev pub by_one : Agreement → StepKind → ℕ → Sought
+by_one agreement kind simulator = record { kind = kind; process = agreement.process; round = agreement.round; simulator = Some simulator; word = None }
 
-abbrev pub has_done : Agreement → Deed → ℕ → List Mark → Bool
-has_done agreement deed simulator marks = list_any (is_sought (by_one agreement deed simulator)) marks
+abbrev pub has_done : Agreement → StepKind → ℕ → List Mark → Bool
+has_done agreement kind simulator marks = list_any (is_sought (by_one agreement kind simulator)) marks
 
 -- ---- what is proposed
 

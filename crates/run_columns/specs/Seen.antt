@@ -8,28 +8,28 @@ use Rattle.view_table.specs.declared.place.Place.{Place}
 use Rattle.view_table.specs.declared.place.Place.TheVariants.{Memory, View}
 use Rattle.room_steps.specs.Steps.{turn_of}
 use Rattle.room_steps.specs.declared.step.AtomicStep.{AtomicStep}
-use Rattle.run_columns.specs.declared.mark.Deed.{Deed}
-use Rattle.run_columns.specs.declared.mark.Deed.TheVariants.{StoreWrite, CountWrite, Snapshot, Propose, Enter, Look, Stand, Withdraw, Ask, LoadView, LoadValue, Decide}
+use Rattle.run_columns.specs.declared.mark.StepKind.{StepKind}
+use Rattle.run_columns.specs.declared.mark.StepKind.TheVariants.{StoreWrite, CountWrite, Snapshot, Propose, Enter, Look, Stand, Withdraw, Ask, LoadView, LoadValue, Decide}
 use Rattle.run_columns.specs.declared.mark.Step.{Step as StepMark}
 
 -- a turn's first step asks where it loads, and stores a write where it does not
-abbrev pub first_deed : Move → Deed
-first_deed (Load index) = Ask
-first_deed operation = StoreWrite
+abbrev pub first_kind : Move → StepKind
+first_kind (Load index) = Ask
+first_kind operation = StoreWrite
 
-abbrev pub deed_of : Line → Move → Deed
-deed_of lines.Rest operation = first_deed operation
-deed_of lines.Raise operation = CountWrite
-deed_of lines.Snap operation = Snapshot
-deed_of lines.Show operation = Propose
-deed_of lines.Enter operation = Enter
-deed_of lines.Look operation = Look
-deed_of (lines.Leave true) operation = Withdraw
-deed_of (lines.Leave false) operation = Stand
-deed_of lines.Ask operation = Ask
-deed_of (lines.GetView chosen) operation = LoadView
-deed_of lines.Values operation = LoadValue
-deed_of (lines.Out decision) operation = Decide
+abbrev pub kind_of : Line → Move → StepKind
+kind_of lines.Rest operation = first_kind operation
+kind_of lines.Raise operation = CountWrite
+kind_of lines.Snap operation = Snapshot
+kind_of lines.Show operation = Propose
+kind_of lines.Enter operation = Enter
+kind_of lines.Look operation = Look
+kind_of (lines.Leave true) operation = Withdraw
+kind_of (lines.Leave false) operation = Stand
+kind_of lines.Ask operation = Ask
+kind_of (lines.GetView chosen) operation = LoadView
+kind_of lines.Values operation = LoadValue
+kind_of (lines.Out decision) operation = Decide
 
 -- the number that an operation stores, or 0
 abbrev pub stored_by : Move → ℕ
@@ -61,7 +61,7 @@ step_mark words step = record {
   round = step.round;
   word = word_of words step.line step.place;
   stored = stored_by step.operation;
-  deed = deed_of step.line step.operation;
+  kind = kind_of step.line step.operation;
   end = turn_of step.end;
   decision = step.decision;
 }

@@ -7,7 +7,7 @@ use Rattle.run_columns.specs.declared.mark.Mark.TheVariants.{Step, Crash}
 use Rattle.run_columns.specs.declared.mark.Step.{Step as StepMark}
 use Rattle.run_columns.specs.declared.sought.Sought.{Sought}
 use Rattle.run_columns.specs.Columns.{more, steps_in}
-use Rattle.run_columns.specs.Deeds.{is_same}
+use Rattle.run_columns.specs.StepKinds.{is_same}
 
 -- whether this is the simulator that is asked for, if one is
 abbrev pub is_by : Option ℕ → ℕ → Bool
@@ -22,7 +22,7 @@ is_on (Some asked) (Some word) = word == asked
 
 abbrev pub is_sought_step : Sought → StepMark → Bool
 is_sought_step sought step =
-    (is_same step.deed sought.deed && ((step.process == sought.process) && (step.round == sought.round)))
+    (is_same step.kind sought.kind && ((step.process == sought.process) && (step.round == sought.round)))
     && (is_by sought.simulator step.simulator && is_on sought.word step.word)
 
 abbrev pub is_sought : Sought → Mark → Bool

@@ -1,8 +1,8 @@
 //! The columns of a run's picture.
 ghost use Rattle.std.specs.Prelude.{◌≡◌, ◌+◌, ◌-◌, ◌^◌, ◌≤◌, IfOk, length, min};
-ghost use Rattle.run_columns.specs.Columns.{change_by, change_by_deed, column_of, columns_by, columns_from, end_by, joins, belongs, next_column, columns_as, folded_scale, scale_by, steps_in, changed, widened};
+ghost use Rattle.run_columns.specs.Columns.{change_by, change_by_kind, column_of, columns_by, columns_from, end_by, joins, belongs, next_column, columns_as, folded_scale, scale_by, steps_in, changed, widened};
 
-use crate::mark::{Deed, Mark, Step};
+use crate::mark::{Mark, Step, StepKind};
 use simulator::Turn;
 use std::alloc::{AllocError, Global};
 use std::marker::Model;
@@ -109,26 +109,26 @@ fn change_by(mark: Mark) -> Change
     ensures { result ≡ change_by mark }
 {
     match mark {
-        Mark::Step(step) => change_by_deed(step.deed),
+        Mark::Step(step) => change_by_kind(step.kind),
         Mark::Crash { .. } => Change::Crashes,
     }
 }
 
-fn change_by_deed(deed: Deed) -> Change
-    ensures { result ≡ change_by_deed deed }
+fn change_by_kind(kind: StepKind) -> Change
+    ensures { result ≡ change_by_kind kind }
 {
-    match deed {
-        Deed::Enter => Change::Enters,
-        Deed::Stand | Deed::Withdraw => Change::Leaves,
-        Deed::StoreWrite
-        | Deed::CountWrite
-        | Deed::Snapshot
-        | Deed::Propose
-        | Deed::Look
-        | Deed::Ask
-        | Deed::LoadView
-        | Deed::LoadValue
-        | Deed::Decide => Change::Nothing,
+    match kind {
+        StepKind::Enter => Change::Enters,
+        StepKind::Stand | StepKind::Withdraw => Change::Leaves,
+        StepKind::StoreWrite
+        | StepKind::CountWrite
+        | StepKind::Snapshot
+        | StepKind::Propose
+        | StepKind::Look
+        | StepKind::Ask
+        | StepKind::LoadView
+        | StepKind::LoadValue
+        | StepKind::Decide => Change::Nothing,
     }
 }
 

@@ -3,31 +3,13 @@ ghost use Rattle.std.specs.Prelude.{◌≡◌, IfOk, Some};
 ghost use Rattle.run_columns.specs.Effects.{by_any, chosen, column_of, event_step, first_in, first_step, from_end, last_word, least, read_step, reads_by, round_at, with_kept};
 
 use crate::column::Column;
-use crate::mark::{Deed, Mark};
+use crate::mark::{Mark, StepKind};
 use crate::sought::{Sought, column_at};
 use std::alloc::{AllocError, Global};
 use transcript::Event;
 
-/// The column of the step at which an event of this round takes effect, in a room with this many memory words; `None` if no column shows that step.
-///
-/// # Errors
-///
-/// If an allocation fails.
-pub fn event_column(
-    alloc: Global,
-    words: u8,
-    marks: &[Mark],
-    columns: &[Column],
-    round: u8,
-    event: &Event,
-) -> Result<Option<Column>, AllocError>
-    ensures { IfOk result (λ column. column ≡ column_of columns.now (event_step words marks.now round event.now)) }
-{
-    let step = event_step(alloc, words, marks, round, event)?;
-    Ok(column_of(columns, step))
-}
-
-fn column_of(columns: &[Column], step: Option<u64>) -> Option<Column>
+/// The column that shows the step with this many steps before it; `None` if there is no such step, or if no column shows it.
+pub fn column_of(columns: &[Column], step: Option<u64>) -> Option<Column>
     ensures { result ≡ column_of columns.now step }
 {
     match step {
@@ -46,8 +28,12 @@ pub fn round_at(round: u8, event: &Event) -> u8
     }
 }
 
-/// How many steps were taken before that at which an event of this round takes effect.
-fn event_step(
+/// How many steps were taken before that at which an event of this round takes effect, in a room with this many memory words.
+///
+/// # Errors
+///
+/// If an allocation fails.
+pub fn event_step(
     alloc: Global,
     words: u8,
     marks: &[Mark],
@@ -57,17 +43,17 @@ fn event_step(
     ensures { IfOk result (λ step. step ≡ event_step words marks.now round event.now) }
 {
     match event {
-        Event::Write { p, .. } => first_step(alloc, Deed::CountWrite, *p, round, marks),
+        Event::Write { p, .. } => first_step(alloc, StepKind::CountWrite, *p, round, marks),
         Event::Snap { p, .. } => read_step(alloc, words, *p, round, marks),
-        Event::Decide { p, .. } => first_step(alloc, Deed::Decide, *p, round, marks),
+        Event::Decide { p, .. } => first_step(alloc, StepKind::Decide, *p, round, marks),
     }
 }
 
-pub(crate) fn by_any(deed: Deed, process: u8, round: u8) -> Sought
-    ensures { result ≡ by_any deed process round }
+pub(crate) fn by_any(kind: StepKind, process: u8, round: u8) -> Sought
+    ensures { result ≡ by_any kind process round }
 {
     Sought {
-        deed,
+        kind,
         process,
         round,
         simulator: None,
@@ -77,14 +63,14 @@ pub(crate) fn by_any(deed: Deed, process: u8, round: u8) -> Sought
 
 fn first_step(
     alloc: Global,
-    deed: Deed,
+    kind: StepKind,
     process: u8,
     round: u8,
     marks: &[Mark],
 ) -> Result<Option<u64>, AllocError>
-    ensures { IfOk result (λ step. step ≡ first_step deed process round marks.now) }
+    ensures { IfOk result (λ step. step ≡ first_step kind process round marks.now) }
 {
-    let steps = by_any(deed, process, round).steps(alloc, marks)?;
+    let steps = by_any(kind, process, round).steps(alloc, marks)?;
     Ok(first_in(&steps))
 }
 
@@ -113,7 +99,7 @@ fn from_end(back: usize, steps: &[u64]) -> Option<u64>
 pub(crate) fn chosen(process: u8, round: u8, marks: &[Mark]) -> Option<u8>
     ensures { result ≡ chosen process round marks.now }
 {
-    let kept = by_any(Deed::Stand, process, round);
+    let kept = by_any(StepKind::Stand, process, round);
     let mut chosen = None;
     for mark in marks {
         chosen = with_kept(kept, chosen, *mark);
@@ -162,7 +148,7 @@ fn reads_by(words: u8, simulator: u8, process: u8, round: u8) -> Sought
     ensures { result ≡ reads_by words simulator process round }
 {
     Sought {
-        deed: Deed::Snapshot,
+        kind: StepKind::Snapshot,
         process,
         round,
         simulator: Some(simulator),

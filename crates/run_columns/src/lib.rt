@@ -3,8 +3,8 @@
 #![tactic(auto)]
 
 mod column;
-mod deed;
 mod effects;
+mod kind;
 pub mod laws;
 mod mark;
 mod proposals;
@@ -12,7 +12,7 @@ mod seen;
 mod sought;
 
 pub use column::{Change, Column, Columns, MAX_COLUMNS, Scale};
-pub use effects::{event_column, round_at};
-pub use mark::{Deed, Mark, Step};
+pub use effects::{column_of, event_step, round_at};
+pub use mark::{Mark, Step, StepKind};
 pub use proposals::{Agreement, Fate, snapshots_of};
 pub use sought::{Sought, column_at};

@@ -6,7 +6,7 @@ use simulator::Turn;
 
 /// What an atomic step does for its process.
 #[derive(Clone, Copy)]
-pub enum Deed {
+pub enum StepKind {
     /// It stores the process's next write.
     StoreWrite,
     /// It counts that write.
@@ -47,7 +47,7 @@ pub struct Step {
     pub word: Option<u8>,
     /// The number that it stores in its word of the shared memory; 0 if it stores none. Of a proposal it is a word of step numbers.
     pub stored: u64,
-    pub deed: Deed,
+    pub kind: StepKind,
     /// Whether it ends the turn, and how.
     pub end: Turn,
     /// What the simulator decides by it, if it does.

@@ -5,7 +5,7 @@ ghost use Rattle.run_columns.specs.Sought.{is_sought};
 ghost use Rattle.run_columns.specs.Proposals.{before_one_stands, by_one, choice_of, fate_of, has_left, has_looked_only, has_done, is_open, is_resolved, is_snapshot_of, is_still_open, is_that, next_agreement, proposal, snapshots_of, stored_in, word_number, word_stored, words_of};
 
 use crate::effects::{by_any, chosen};
-use crate::mark::{Deed, Mark, Step};
+use crate::mark::{Mark, Step, StepKind};
 use crate::sought::Sought;
 use room_spec::MAX_MEMORY_WORDS;
 use transcript::Event;
@@ -40,11 +40,11 @@ impl Agreement {
         }
     }
 
-    fn by_one(self, deed: Deed, simulator: u8) -> Sought
-        ensures { result ≡ by_one self deed simulator }
+    fn by_one(self, kind: StepKind, simulator: u8) -> Sought
+        ensures { result ≡ by_one self kind simulator }
     {
         Sought {
-            deed,
+            kind,
             process: self.process,
             round: self.round,
             simulator: Some(simulator),
@@ -53,10 +53,10 @@ impl Agreement {
     }
 
     /// Whether a simulator takes a step in the agreement that does this.
-    pub fn has_done(self, deed: Deed, simulator: u8, marks: &[Mark]) -> bool
-        ensures { result ≡ has_done self deed simulator marks.now }
+    pub fn has_done(self, kind: StepKind, simulator: u8, marks: &[Mark]) -> bool
+        ensures { result ≡ has_done self kind simulator marks.now }
     {
-        let sought = self.by_one(deed, simulator);
+        let sought = self.by_one(kind, simulator);
         marks.iter().any(|mark| sought.is_at(*mark))
     }
 
@@ -65,7 +65,7 @@ impl Agreement {
         ensures value { result ≡ proposal self simulator marks.now }
         ensures count { length result ≡ MAX_MEMORY_WORDS }
     {
-        let proposes = self.by_one(Deed::Propose, simulator);
+        let proposes = self.by_one(StepKind::Propose, simulator);
         let mut words = [0; MAX_MEMORY_WORDS];
         for mark in marks {
             if let Some((at, stored)) = stored_in(proposes, *mark) {
@@ -92,7 +92,7 @@ impl Agreement {
             } else {
                 Fate::Dropped
             }
-        } else if self.has_done(Deed::Withdraw, simulator, marks) {
+        } else if self.has_done(StepKind::Withdraw, simulator, marks) {
             Fate::Dropped
         } else {
             Fate::Open
@@ -103,7 +103,7 @@ impl Agreement {
     pub fn is_open(self, simulator: u8, marks: &[Mark], events: &[Event]) -> bool
         ensures { result ≡ is_open self simulator marks.now events.now }
     {
-        self.has_done(Deed::Propose, simulator, marks)
+        self.has_done(StepKind::Propose, simulator, marks)
             && self.fate(simulator, marks, events).is_still_open()
     }
 
@@ -130,7 +130,7 @@ impl Agreement {
     fn before_one_stands(self, marks: &[Mark]) -> &[Mark]
         ensures { result.now ≡ before_one_stands self marks.now }
     {
-        let kept = by_any(Deed::Stand, self.process, self.round);
+        let kept = by_any(StepKind::Stand, self.process, self.round);
         match first_at(kept, marks) {
             None => marks,
             Some(place) => &marks[..place],
@@ -141,15 +141,15 @@ impl Agreement {
     fn has_looked_only(self, marks: &[Mark], mark: Mark) -> bool
         ensures { result ≡ has_looked_only self marks.now mark }
     {
-        by_any(Deed::Look, self.process, self.round).is_at(mark)
+        by_any(StepKind::Look, self.process, self.round).is_at(mark)
             && !self.has_left(mark.simulator(), marks)
     }
 
     fn has_left(self, simulator: u8, marks: &[Mark]) -> bool
         ensures { result ≡ has_left self simulator marks.now }
     {
-        self.has_done(Deed::Stand, simulator, marks)
-            || self.has_done(Deed::Withdraw, simulator, marks)
+        self.has_done(StepKind::Stand, simulator, marks)
+            || self.has_done(StepKind::Withdraw, simulator, marks)
     }
 }
 

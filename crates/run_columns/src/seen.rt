@@ -1,9 +1,9 @@
 //! Atomic steps as they are drawn.
 ghost use Rattle.std.specs.Prelude.{◌≡◌, min};
 ghost use Rattle.room_steps.specs.Steps.{turn_of};
-ghost use Rattle.run_columns.specs.Seen.{deed_of, is_on_snapshot, step_mark, stored_by, word_in, word_of};
+ghost use Rattle.run_columns.specs.Seen.{kind_of, is_on_snapshot, step_mark, stored_by, word_in, word_of};
 
-use crate::mark::{Deed, Step};
+use crate::mark::{Step, StepKind};
 use room_steps::AtomicStep;
 use simulator::{Goal, Line, Move, Turn};
 use view_table::Place;
@@ -20,7 +20,7 @@ impl Step {
             round: step.round,
             word: word_of(words, step.line, step.place),
             stored: stored_by(step.operation),
-            deed: deed_of(step.line, step.operation),
+            kind: kind_of(step.line, step.operation),
             end: end_of(step.end),
             decision: step.decision,
         }
@@ -45,25 +45,25 @@ fn stored_by(operation: Move) -> u64
 }
 
 /// What a step at this line does. The first step of a turn is an ask if it loads.
-fn deed_of(line: Line, operation: Move) -> Deed
-    ensures { result ≡ deed_of line operation }
+fn kind_of(line: Line, operation: Move) -> StepKind
+    ensures { result ≡ kind_of line operation }
 {
     match line {
         Line::Rest => match operation {
-            Move::Load(_) => Deed::Ask,
-            _ => Deed::StoreWrite,
+            Move::Load(_) => StepKind::Ask,
+            _ => StepKind::StoreWrite,
         },
-        Line::Raise => Deed::CountWrite,
-        Line::Snap => Deed::Snapshot,
-        Line::Show => Deed::Propose,
-        Line::Enter => Deed::Enter,
-        Line::Look => Deed::Look,
-        Line::Leave { saw_two: true } => Deed::Withdraw,
-        Line::Leave { saw_two: false } => Deed::Stand,
-        Line::Ask => Deed::Ask,
-        Line::GetView { .. } => Deed::LoadView,
-        Line::Values => Deed::LoadValue,
-        Line::Out { .. } => Deed::Decide,
+        Line::Raise => StepKind::CountWrite,
+        Line::Snap => StepKind::Snapshot,
+        Line::Show => StepKind::Propose,
+        Line::Enter => StepKind::Enter,
+        Line::Look => StepKind::Look,
+        Line::Leave { saw_two: true } => StepKind::Withdraw,
+        Line::Leave { saw_two: false } => StepKind::Stand,
+        Line::Ask => StepKind::Ask,
+        Line::GetView { .. } => StepKind::LoadView,
+        Line::Values => StepKind::LoadValue,
+        Line::Out { .. } => StepKind::Decide,
     }
 }
 

@@ -3,13 +3,13 @@ ghost use Rattle.std.specs.Prelude.{◌≡◌, IfOk};
 ghost use Rattle.run_columns.specs.Sought.{column_at, is_by, is_on, is_sought, is_sought_step, shows_step, steps_of};
 
 use crate::column::{Column, steps_in};
-use crate::mark::{Deed, Mark, Step};
+use crate::mark::{Mark, Step, StepKind};
 use std::alloc::{AllocError, Global};
 
 /// What steps are looked for by.
 #[derive(Clone, Copy)]
 pub struct Sought {
-    pub deed: Deed,
+    pub kind: StepKind,
     pub process: u8,
     pub round: u8,
     /// By which simulator, or by any.
@@ -51,7 +51,7 @@ impl Sought {
     pub(crate) fn is_step(self, step: Step) -> bool
         ensures { result ≡ is_sought_step self step }
     {
-        (step.deed.is_same(self.deed) && (step.process == self.process && step.round == self.round))
+        (step.kind.is_same(self.kind) && (step.process == self.process && step.round == self.round))
             && (is_by(self.simulator, step.simulator) && is_on(self.word, step.word))
     }
 }

@@ -4,12 +4,12 @@ use Rattle.std.specs.List.{filter, list_any}
 use Rattle.picture_shapes.specs.declared.colour.Colour.TheVariants.{Faint}
 use Rattle.picture_shapes.specs.declared.shape.Shape.{Shape}
 use Rattle.picture_shapes.specs.declared.shape.Shape.TheVariants.{Label}
-use Rattle.run_columns.specs.declared.mark.Deed.{Deed}
-use Rattle.run_columns.specs.declared.mark.Deed.TheVariants.{Propose}
+use Rattle.run_columns.specs.declared.mark.StepKind.{StepKind}
+use Rattle.run_columns.specs.declared.mark.StepKind.TheVariants.{Propose}
 use Rattle.run_columns.specs.declared.mark.Mark.{Mark}
 use Rattle.run_columns.specs.declared.mark.Mark.TheVariants.{Step, Crash}
 use Rattle.run_columns.specs.Columns.{most_columns}
-use Rattle.run_columns.specs.Deeds.{all_deeds, is_same, letter_of, meaning_of}
+use Rattle.run_columns.specs.StepKinds.{all_kinds, is_same, letter_of, meaning_of}
 use Rattle.simulator_lanes.specs.declared.fonts.TheConstants.{LEGEND, WORDS}
 use Rattle.simulator_lanes.specs.declared.layout.TheConstants.{MARGIN}
 use Rattle.simulator_lanes.specs.Panels.{Panel}
@@ -17,30 +17,30 @@ use Rattle.run_picture.specs.declared.picture.Style.{Style}
 
 -- ---- the letters that occur
 
-abbrev pub shows_deed : Deed → Mark → Bool
-shows_deed deed (Step step) = is_same step.deed deed
-shows_deed deed (Crash simulator) = false
+abbrev pub shows_kind : StepKind → Mark → Bool
+shows_kind kind (Step step) = is_same step.kind kind
+shows_kind kind (Crash simulator) = false
 
 -- there are letters in the picture of a room if each column is a step
 abbrev pub has_letters : Style → Panel → Bool
 has_letters style panel = not style.by_turns && nat_le (length panel.marks) most_columns
 
-abbrev pub has_letter : Style → Deed → Panel → Bool
-has_letter style deed panel = has_letters style panel && list_any (shows_deed deed) panel.marks
+abbrev pub has_letter : Style → StepKind → Panel → Bool
+has_letter style kind panel = has_letters style panel && list_any (shows_kind kind) panel.marks
 
-abbrev pub deeds_in : Style → List Panel → List Deed
-deeds_in style panels = filter (λ deed. list_any (has_letter style deed) panels) all_deeds
+abbrev pub kinds_in : Style → List Panel → List StepKind
+kinds_in style panels = filter (λ kind. list_any (has_letter style kind) panels) all_kinds
 
-unfoldable pub legend_entry : ℕ → Deed → List Shape
-legend_entry index deed =
-    Label (record { x = MARGIN + 150 * (index % 4); y = 16 + 18 * (index / 4) }) LEGEND Faint (letter_of deed)
-    ∷ Label (record { x = MARGIN + 150 * (index % 4) + 16; y = 16 + 18 * (index / 4) }) WORDS Faint (meaning_of deed)
+unfoldable pub legend_entry : ℕ → StepKind → List Shape
+legend_entry index kind =
+    Label (record { x = MARGIN + 150 * (index % 4); y = 16 + 18 * (index / 4) }) LEGEND Faint (letter_of kind)
+    ∷ Label (record { x = MARGIN + 150 * (index % 4) + 16; y = 16 + 18 * (index / 4) }) WORDS Faint (meaning_of kind)
     ∷ []
 
 -- four in a row
-abbrev pub legend_from : ℕ → List Deed → List Shape
+abbrev pub legend_from : ℕ → List StepKind → List Shape
 legend_from index [] = []
-legend_from index (deed ∷ deeds) = legend_entry index deed ++ legend_from (index + 1) deeds
+legend_from index (kind ∷ kinds) = legend_entry index kind ++ legend_from (index + 1) kinds
 
 -- ---- what else is to be explained
 
@@ -71,4 +71,4 @@ notes style panels =
 
 -- the letters, and what else is to be explained
 abbrev pub legend_shapes : Style → List Panel → List Shape
-legend_shapes style panels = legend_from 0 (deeds_in style panels) ++ notes style panels
+legend_shapes style panels = legend_from 0 (kinds_in style panels) ++ notes style panels

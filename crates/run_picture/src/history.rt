@@ -9,8 +9,8 @@ ghost use Rattle.simulator_lanes.specs.Words.{process_name};
 use crate::open::add_open;
 use crate::stopped::is_one_left;
 use io_text::Text;
-use picture_shapes::{Colour, Dashes, Frame, Point, Sheet, write_decimal};
-use run_columns::{Column, event_column, round_at};
+use picture_shapes::{Colour, Dashes, Frame, Point, Sheet, Stroke, write_decimal};
+use run_columns::{Column, column_of, event_step, round_at};
 use simulator_lanes::{
     EVENT, Grid, LEFT, MARGIN, Panel, SMALL, WORDS, dashes_for, write_process, write_simulator,
 };
@@ -135,7 +135,8 @@ fn column_for(
     let panel = chart.panel;
     let round = round_at(pen.round, event);
     let words = panel.words() as u8;
-    event_column(alloc, words, panel.marks(), chart.columns, round, event)
+    let step = event_step(alloc, words, panel.marks(), round, event)?;
+    Ok(column_of(chart.columns, step))
 }
 
 /// How far the lane is drawn after an event in this column.
@@ -212,8 +213,9 @@ fn add_tie(sheet: &mut Sheet, corner: Point, start: Point, hue: Colour) -> Resul
         x: corner.x.saturating_add(8),
         y: start.y.saturating_sub(6),
     };
-    sheet.line(corner.moved(8, 24), turning, 1, hue, Dashes::Solid)?;
-    sheet.line(turning, start.moved(8, 0), 1, hue, Dashes::Solid)
+    let stroke = Stroke::solid(hue);
+    sheet.line(corner.moved(8, 24), turning, 1, stroke)?;
+    sheet.line(turning, start.moved(8, 0), 1, stroke)
 }
 
 /// Draws the lanes of the processes in all rows, up to this x in the last, and there the states of the processes.
@@ -353,7 +355,8 @@ fn add_lane_line(
     sheet.label(start.moved(0, 23), SMALL, colour, words)?;
     let from = Point { x: LEFT - 6, y };
     let to = Point { x: lane.right, y };
-    sheet.line(from.moved(0, 11), to.moved(0, 11), 1, colour, dashes)
+    let stroke = Stroke { colour, dashes };
+    sheet.line(from.moved(0, 11), to.moved(0, 11), 1, stroke)
 }
 
 fn process_name(alloc: Global, process: u8) -> Result<Text, AllocError>
@@ -428,10 +431,12 @@ fn add_box(sheet: &mut Sheet, start: Point, event: &Event, words: &[u8]) -> Resu
 {
     let width = box_width(words);
     let frame = Frame::at(start, width, 22);
-    let outline = Colour::Hue(event.process());
+    let outline = Stroke {
+        colour: Colour::Hue(event.process()),
+        dashes: dashes_for(event.process()),
+    };
     let (fill, ink, corner) = event_look(event);
-    let dashes = dashes_for(event.process());
-    sheet.area(frame, corner, fill, outline, dashes)?;
+    sheet.area(frame, corner, fill, outline)?;
     let middle = start.moved(width / 2, 15);
     sheet.label(middle, EVENT, ink, words)?;
     let hint = event_hint(sheet.alloc(), event.process(), words)?;

@@ -1,12 +1,12 @@
 //! What the letters stand for.
 ghost use Rattle.std.specs.Prelude.{◌≡◌, ◌++◌, ◌*◌, ◌+◌, ◌≤◌, [], IfOk, OnOk, codes, length, if◌then◌else◌};
 ghost use Rattle.std.specs.List.{list_any};
-ghost use Rattle.run_columns.specs.declared.mark.Deed.TheVariants.{Propose};
-ghost use Rattle.run_picture.specs.Legends.{deeds_in, dropped_note, has_letter, has_letters, has_word, has_words, legend_entry, legend_from, legend_shapes, note, notes, proposals_note, shows_deed, words_note};
+ghost use Rattle.run_columns.specs.declared.mark.StepKind.TheVariants.{Propose};
+ghost use Rattle.run_picture.specs.Legends.{kinds_in, dropped_note, has_letter, has_letters, has_word, has_words, legend_entry, legend_from, legend_shapes, note, notes, proposals_note, shows_kind, words_note};
 
 use crate::picture::Style;
 use picture_shapes::{Colour, Point, Sheet};
-use run_columns::{Deed, MAX_COLUMNS, Mark};
+use run_columns::{MAX_COLUMNS, Mark, StepKind};
 use simulator_lanes::{LEGEND, MARGIN, Panel, WORDS};
 use std::alloc::{AllocError, Global};
 
@@ -18,36 +18,36 @@ pub(crate) fn add_legend(
 ) -> Result<(), AllocError>
     ensures { OnOk result (sheet.new ≡ sheet.old ++ legend_shapes style panels.now) }
 {
-    let deeds = deeds_in(sheet.alloc(), style, panels)?;
-    add_entries(sheet, &deeds)?;
+    let kinds = kinds_in(sheet.alloc(), style, panels)?;
+    add_entries(sheet, &kinds)?;
     add_notes(sheet, style, panels)
 }
 
 /// The letters that are in the pictures of these rooms.
-fn deeds_in(alloc: Global, style: Style, panels: &[Panel]) -> Result<Vec<Deed>, AllocError>
-    ensures value { IfOk result (λ deeds. deeds.items ≡ deeds_in style panels.now) }
-    ensures few { IfOk result (λ deeds. length deeds.items ≤ 12) }
+fn kinds_in(alloc: Global, style: Style, panels: &[Panel]) -> Result<Vec<StepKind>, AllocError>
+    ensures value { IfOk result (λ kinds. kinds.items ≡ kinds_in style panels.now) }
+    ensures few { IfOk result (λ kinds. length kinds.items ≤ 12) }
 {
-    let mut deeds = Vec::new(alloc);
-    for deed in &Deed::all() {
-        if is_in(style, *deed, panels) {
-            deeds.push(*deed)?;
+    let mut kinds = Vec::new(alloc);
+    for kind in &StepKind::all() {
+        if is_in(style, *kind, panels) {
+            kinds.push(*kind)?;
         }
     }
-    Ok(deeds)
+    Ok(kinds)
 }
 
-fn is_in(style: Style, deed: Deed, panels: &[Panel]) -> bool
-    ensures { result ≡ list_any (has_letter style deed) panels.now }
+fn is_in(style: Style, kind: StepKind, panels: &[Panel]) -> bool
+    ensures { result ≡ list_any (has_letter style kind) panels.now }
 {
-    panels.iter().any(|panel| has_letter(style, deed, panel))
+    panels.iter().any(|panel| has_letter(style, kind, panel))
 }
 
 /// Whether a letter is in the picture of a room.
-fn has_letter(style: Style, deed: Deed, panel: &Panel) -> bool
-    ensures { result ≡ has_letter style deed panel.now }
+fn has_letter(style: Style, kind: StepKind, panel: &Panel) -> bool
+    ensures { result ≡ has_letter style kind panel.now }
 {
-    has_letters(style, panel) && is_among(deed, panel.marks())
+    has_letters(style, panel) && is_among(kind, panel.marks())
 }
 
 /// Whether there are letters in the picture of a room: if each column is a step.
@@ -57,56 +57,56 @@ fn has_letters(style: Style, panel: &Panel) -> bool
     !style.by_turns && panel.marks().len() <= MAX_COLUMNS
 }
 
-fn is_among(deed: Deed, marks: &[Mark]) -> bool
-    ensures { result ≡ list_any (shows_deed deed) marks.now }
+fn is_among(kind: StepKind, marks: &[Mark]) -> bool
+    ensures { result ≡ list_any (shows_kind kind) marks.now }
 {
-    marks.iter().any(|mark| shows_deed(deed, *mark))
+    marks.iter().any(|mark| shows_kind(kind, *mark))
 }
 
-fn shows_deed(deed: Deed, mark: Mark) -> bool
-    ensures { result ≡ shows_deed deed mark }
+fn shows_kind(kind: StepKind, mark: Mark) -> bool
+    ensures { result ≡ shows_kind kind mark }
 {
     match mark {
-        Mark::Step(step) => step.deed.is_same(deed),
+        Mark::Step(step) => step.kind.is_same(kind),
         Mark::Crash { .. } => false,
     }
 }
 
 /// Writes what each of these letters stands for, four in a row.
-fn add_entries(sheet: &mut Sheet, deeds: &[Deed]) -> Result<(), AllocError>
-    requires { length deeds.now ≤ 12 }
-    ensures { OnOk result (sheet.new ≡ sheet.old ++ legend_from 0 deeds.now) }
+fn add_entries(sheet: &mut Sheet, kinds: &[StepKind]) -> Result<(), AllocError>
+    requires { length kinds.now ≤ 12 }
+    ensures { OnOk result (sheet.new ≡ sheet.old ++ legend_from 0 kinds.now) }
 {
     let mut index = 0;
-    for deed in deeds {
-        add_entry(sheet, index, *deed)?;
+    for kind in kinds {
+        add_entry(sheet, index, *kind)?;
         index += 1;
     }
     Ok(())
 }
 
 #[tactic(auto, unfolding(crate::specs::Legends::legend_entry))]
-fn add_entry(sheet: &mut Sheet, index: u64, deed: Deed) -> Result<(), AllocError>
+fn add_entry(sheet: &mut Sheet, index: u64, kind: StepKind) -> Result<(), AllocError>
     requires { index ≤ 12 }
-    ensures { OnOk result (sheet.new ≡ sheet.old ++ legend_entry index deed) }
+    ensures { OnOk result (sheet.new ≡ sheet.old ++ legend_entry index kind) }
 {
     let at = Point {
         x: MARGIN + 150 * (index % 4),
         y: 16 + 18 * (index / 4),
     };
-    sheet.label(at, LEGEND, Colour::Faint, deed.letter())?;
+    sheet.label(at, LEGEND, Colour::Faint, kind.letter())?;
     let after = Point {
         x: at.x + 16,
         y: at.y,
     };
-    sheet.label(after, WORDS, Colour::Faint, deed.meaning())
+    sheet.label(after, WORDS, Colour::Faint, kind.meaning())
 }
 
 /// Explains proposals and the numbers of words, if there are some.
 fn add_notes(sheet: &mut Sheet, style: Style, panels: &[Panel]) -> Result<(), AllocError>
     ensures { OnOk result (sheet.new ≡ sheet.old ++ notes style panels.now) }
 {
-    add_proposals_note(sheet, is_in(style, Deed::Propose, panels))?;
+    add_proposals_note(sheet, is_in(style, StepKind::Propose, panels))?;
     add_words_note(sheet, have_words(style, panels))
 }
 

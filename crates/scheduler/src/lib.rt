@@ -22,3 +22,4 @@ pub use gathers::Gathers;
 pub use opening::OpenRooms;
 pub use rooms::{RoomResult, RunFault, open_rooms, run_opened, run_rooms};
 pub use ruled_room::Stop;
+pub use workers::Course;

@@ -90,14 +90,12 @@ impl Opened {
         let fuses = fuses_of(&spec);
         let place = self.rooms.len();
         let (room, mut keeper) = RuledRoom::fresh(alloc, spec)?;
-        deal(
-            &mut self.queues,
-            next,
-            &room,
-            &mut keeper,
+        let fresh = NewRoom {
+            room: &room,
             place,
-            fuses.as_slice(),
-        )?;
+            fuses: fuses.as_slice(),
+        };
+        deal(&mut self.queues, next, &fresh, &mut keeper)?;
         self.rooms.push(room)?;
         self.keepers.push(keeper)?;
         Ok(())
@@ -123,33 +121,41 @@ fn fuse_from(steps: Option<u32>) -> Fuse
     }
 }
 
+/// A room whose simulators have not taken a step.
+#[derive(Clone, Copy)]
+struct NewRoom<'a> {
+    room: &'a RuledRoom,
+    /// Its place among all rooms.
+    place: usize,
+    /// When each of its simulators crashes.
+    fuses: &'a [Fuse],
+}
+
 /// Gives all simulators of a new room away, to one worker after the other.
 fn deal(
     queues: &mut Vec<VecDeque<Task>>,
     next: &mut usize,
-    room: &RuledRoom,
+    fresh: &NewRoom<'_>,
     keeper: &mut Keeper,
-    place: usize,
-    fuses: &[Fuse],
 ) -> Result<(), AllocError>
-    requires keeper { keeper.old ≡ opening_keeper room.now }
-    requires fuses { fuses.now ≡ map (fuse_of room.now.spec.fuses) (range_with_len 0 room.now.spec.simulators) }
+    requires keeper { keeper.old ≡ opening_keeper fresh.now.room.now }
+    requires fuses { fresh.now.fuses.now ≡ map (fuse_of fresh.now.room.now.spec.fuses) (range_with_len 0 fresh.now.room.now.spec.simulators) }
     requires next { next.old < length queues.old.items }
-    ensures keeper { OnOk result ((keeper.new.room ≡ room.now) × IsKept keeper.new) }
+    ensures keeper { OnOk result ((keeper.new.room ≡ fresh.now.room.now) × IsKept keeper.new) }
     ensures next { OnOk result ((next.new < length queues.new.items) × (length queues.new.items ≡ length queues.old.items)) }
-    ensures tasks { OnOk result ((rooms : List RoomName) → slice_get rooms place ≡ Some room.now →
+    ensures tasks { OnOk result ((rooms : List RoomName) → slice_get rooms fresh.now.place ≡ Some fresh.now.room.now →
         AreTasksOf rooms (map (λ queue. queue.items) queues.old.items) →
         AreTasksOf rooms (map (λ queue. queue.items) queues.new.items)) }
     ensures away { OnOk result ((k i : ℕ) →
         waiting k i (map (λ queue. queue.items) queues.new.items) ≡
-        waiting k i (map (λ queue. queue.items) queues.old.items) + away_at place keeper.new.sweeps k i) }
+        waiting k i (map (λ queue. queue.items) queues.old.items) + away_at fresh.now.place keeper.new.sweeps k i) }
 {
-    for i in 0..fuses.len() {
-        let simulator = keeper.give(room, i);
+    for i in 0..fresh.fuses.len() {
+        let simulator = keeper.give(fresh.room, i);
         let task = Task {
-            place,
+            place: fresh.place,
             simulator,
-            fuse: fuses[i],
+            fuse: fresh.fuses[i],
         };
         put(queues, *next, task)?;
         *next = after(*next, queues.len());

@@ -10,7 +10,7 @@ ghost use Rattle.scheduler.specs.declared.rooms.TheConstants.{ROOMS_A_THREAD};
 use crate::gate::Gate;
 use crate::gathers::Gathers;
 use crate::opening::{OpenRooms, Opened, open_all};
-use crate::workers::run_all;
+use crate::workers::{Course, run_all};
 use room_core::RoomCore;
 use room_spec::Spec;
 use ruled_room::{Gone, Keeper, RuledRoom};
@@ -96,7 +96,12 @@ pub fn run_rooms<R: Threads + Wait + Sync, G: Gate + Sync>(
     ensures rooms { IfOk result (λ results. AreRoomRuns specs.items results.items) }
 {
     let opened = open_rooms(alloc, specs, workers)?;
-    run_opened(rt, alloc, opened, usize::MAX, gate, Vec::new(alloc))
+    let course = Course {
+        alloc,
+        gate,
+        at_once: usize::MAX,
+    };
+    run_opened(rt, course, opened, Vec::new(alloc))
 }
 
 /// Opens a room of each spec, and deals out their simulators to the workers. [`run_opened`] runs them; the rooms of another list can be
@@ -119,18 +124,13 @@ pub fn open_rooms(alloc: Global, specs: Vec<Spec>, workers: u8) -> Result<OpenRo
 /// Runs rooms that are open, as [`run_rooms`] says, and adds the results to those that were gathered before. Each thread that ends
 /// rooms gathers their results.
 ///
-/// A worker goes round its tasks of the first `at_once` rooms until all of them have stopped, then round those of the next, and so on:
-/// the words of a few rooms stay in the processor's cache. If `at_once` is 0, it counts as 1.
-///
 /// # Errors
 ///
 /// If a thread could not be started; an allocation that failed. All rooms are then given up.
 pub fn run_opened<R: Threads + Wait + Sync, G: Gate + Sync, A: Gathers + Send>(
     rt: &R,
-    alloc: Global,
+    course: Course<'_, G>,
     opened: OpenRooms,
-    at_once: usize,
-    gate: &G,
     gathered: A,
 ) -> Result<A, RunFault>
     ensures fault { IfErr result (λ fault. fault ≢ Workers) }
@@ -143,9 +143,17 @@ pub fn run_opened<R: Threads + Wait + Sync, G: Gate + Sync, A: Gathers + Send>(
         queues,
     } = opened.dealt;
     let workers = queues.len() as u8;
-    let keepers = run_all(rt, alloc, rooms.as_slice(), keepers, queues, at_once, gate)?;
+    let keepers = run_all(rt, course, rooms.as_slice(), keepers, queues)?;
     let threads = ending_threads(rooms.len(), workers);
-    Ok(finish_by(rt, alloc, rooms, keepers, threads, gathered)?)
+    let stopped = StoppedRooms { rooms, keepers };
+    Ok(finish_by(rt, course.alloc, stopped, threads, gathered)?)
+}
+
+/// Rooms whose simulators have all stopped, each with its keeper at the same place.
+#[derive(Drop)]
+struct StoppedRooms {
+    rooms: Vec<RuledRoom>,
+    keepers: Vec<Keeper>,
 }
 
 /// How many rooms a thread ends at least, if more than one does: a thread for a few rooms takes more
@@ -165,30 +173,29 @@ fn ending_threads(rooms: usize, workers: u8) -> u8
 fn finish_by<R: Threads + Sync, A: Gathers + Send>(
     rt: &R,
     alloc: Global,
-    mut rooms: Vec<RuledRoom>,
-    mut keepers: Vec<Keeper>,
+    mut stopped: StoppedRooms,
     threads: u8,
     gathered: A,
 ) -> Result<A, AllocError>
-    requires kept { AreKept rooms.items keepers.items }
-    requires home { (k i : ℕ) → away keepers.items k i ≡ 0 }
-    ensures { IfOk result (λ all. AddsRoomRuns (map (λ room. room.spec) rooms.items) (A.has_gathered gathered) (A.has_gathered all)) }
+    requires kept { AreKept stopped.rooms.items stopped.keepers.items }
+    requires home { (k i : ℕ) → away stopped.keepers.items k i ≡ 0 }
+    ensures { IfOk result (λ all. AddsRoomRuns (map (λ room. room.spec) stopped.rooms.items) (A.has_gathered gathered) (A.has_gathered all)) }
 {
     if threads <= 1 {
-        return finish_all(alloc, rooms, keepers, gathered);
+        return finish_all(alloc, stopped, gathered);
     }
     let others = threads - 1;
-    let count = rooms.len() - rooms.len() / usize::from(threads);
-    let (last_rooms, last_keepers) = cut(&mut rooms, &mut keepers, count)?;
+    let count = stopped.rooms.len() - stopped.rooms.len() / usize::from(threads);
+    let part = cut(&mut stopped, count)?;
     let nothing = A::none(alloc);
     let first = move || -> Result<A, AllocError>
-        requires { AreKept rooms.items keepers.items × ((k i : ℕ) → away keepers.items k i ≡ 0) }
-        ensures { IfOk result (λ all. AddsRoomRuns (map (λ room. room.spec) rooms.items) (A.has_gathered gathered) (A.has_gathered all)) }
-    { finish_by(rt, alloc, rooms, keepers, others, gathered) };
+        requires { AreKept stopped.rooms.items stopped.keepers.items × ((k i : ℕ) → away stopped.keepers.items k i ≡ 0) }
+        ensures { IfOk result (λ all. AddsRoomRuns (map (λ room. room.spec) stopped.rooms.items) (A.has_gathered gathered) (A.has_gathered all)) }
+    { finish_by(rt, alloc, stopped, others, gathered) };
     let last = move || -> Result<A, AllocError>
-        requires { AreKept last_rooms.items last_keepers.items × ((k i : ℕ) → away last_keepers.items k i ≡ 0) }
-        ensures { IfOk result (λ all. AddsRoomRuns (map (λ room. room.spec) last_rooms.items) (A.has_gathered nothing) (A.has_gathered all)) }
-    { finish_all(alloc, last_rooms, last_keepers, nothing) };
+        requires { AreKept part.rooms.items part.keepers.items × ((k i : ℕ) → away part.keepers.items k i ≡ 0) }
+        ensures { IfOk result (λ all. AddsRoomRuns (map (λ room. room.spec) part.rooms.items) (A.has_gathered nothing) (A.has_gathered all)) }
+    { finish_all(alloc, part, nothing) };
     let (first, last) = thread::join(rt, first, last);
     let mut all = first?;
     all.add_all(last?)?;
@@ -196,39 +203,34 @@ fn finish_by<R: Threads + Sync, A: Gathers + Send>(
 }
 
 /// Splits off the rooms from `count` on.
-fn cut(
-    rooms: &mut Vec<RuledRoom>,
-    keepers: &mut Vec<Keeper>,
-    count: usize,
-) -> Result<(Vec<RuledRoom>, Vec<Keeper>), AllocError>
-    requires count { count ≤ length rooms.old.items }
-    requires kept { AreKept rooms.old.items keepers.old.items }
-    requires home { (k i : ℕ) → away keepers.old.items k i ≡ 0 }
-    ensures first { OnOk result (AreKept rooms.new.items keepers.new.items × ((k i : ℕ) → away keepers.new.items k i ≡ 0)) }
-    ensures others { IfOk result (λ others. AreKept others.0.items others.1.items × ((k i : ℕ) → away others.1.items k i ≡ 0)) }
+fn cut(stopped: &mut StoppedRooms, count: usize) -> Result<StoppedRooms, AllocError>
+    requires count { count ≤ length stopped.old.rooms.items }
+    requires kept { AreKept stopped.old.rooms.items stopped.old.keepers.items }
+    requires home { (k i : ℕ) → away stopped.old.keepers.items k i ≡ 0 }
+    ensures first { OnOk result (AreKept stopped.new.rooms.items stopped.new.keepers.items × ((k i : ℕ) → away stopped.new.keepers.items k i ≡ 0)) }
+    ensures others { IfOk result (λ others. AreKept others.rooms.items others.keepers.items × ((k i : ℕ) → away others.keepers.items k i ≡ 0)) }
     ensures specs { IfOk result (λ others.
-        map (λ room. room.spec) rooms.old.items ≡
-        map (λ room. room.spec) rooms.new.items ++ map (λ room. room.spec) others.0.items) }
+        map (λ room. room.spec) stopped.old.rooms.items ≡
+        map (λ room. room.spec) stopped.new.rooms.items ++ map (λ room. room.spec) others.rooms.items) }
 {
-    let other_rooms = rooms.split_off(count)?;
-    let other_keepers = keepers.split_off(count)?;
-    Ok((other_rooms, other_keepers))
+    let rooms = stopped.rooms.split_off(count)?;
+    let keepers = stopped.keepers.split_off(count)?;
+    Ok(StoppedRooms { rooms, keepers })
 }
 
 /// Ends each room, one after the other.
 fn finish_all<A: Gathers>(
     alloc: Global,
-    rooms: Vec<RuledRoom>,
-    keepers: Vec<Keeper>,
+    stopped: StoppedRooms,
     gathered: A,
 ) -> Result<A, AllocError>
-    requires kept { AreKept rooms.items keepers.items }
-    requires home { (k i : ℕ) → away keepers.items k i ≡ 0 }
-    ensures { IfOk result (λ all. AddsRoomRuns (map (λ room. room.spec) rooms.items) (A.has_gathered gathered) (A.has_gathered all)) }
+    requires kept { AreKept stopped.rooms.items stopped.keepers.items }
+    requires home { (k i : ℕ) → away stopped.keepers.items k i ≡ 0 }
+    ensures { IfOk result (λ all. AddsRoomRuns (map (λ room. room.spec) stopped.rooms.items) (A.has_gathered gathered) (A.has_gathered all)) }
 {
     let mut all = gathered;
-    let mut rooms = rooms.into_iter();
-    let mut keepers = keepers.into_iter();
+    let mut rooms = stopped.rooms.into_iter();
+    let mut keepers = stopped.keepers.into_iter();
     while let Some(room) = rooms.next() {
         let Some(keeper) = keepers.next() else {
             unreachable!() // each room has its keeper

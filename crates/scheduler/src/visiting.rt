@@ -20,6 +20,39 @@ pub(crate) struct Visited {
     pub(crate) stop: Option<Stop>,
 }
 
+/// The visits of a worker.
+#[derive(Drop)]
+pub(crate) struct Visits<'a, G> {
+    /// What each passes.
+    gate: &'a G,
+    /// The number of the worker.
+    worker: u8,
+    /// How many there were.
+    count: u64,
+}
+
+impl<'a, G: Gate> Visits<'a, G> {
+    /// None yet of this worker.
+    pub(crate) fn none(gate: &'a G, worker: u8) -> Visits<'a, G>
+        ensures { (result.worker ≡ worker) × (result.count ≡ 0) }
+    {
+        Visits {
+            gate,
+            worker,
+            count: 0,
+        }
+    }
+
+    /// Passes the gate for one more.
+    #[inline(always)]
+    fn pass(&mut self)
+        ensures { (self.new.worker ≡ self.old.worker) × (self.old.count ≤ self.new.count) }
+    {
+        self.gate.pass(self.worker, self.count);
+        self.count = self.count.saturating_add(1);
+    }
+}
+
 /// Takes the tasks of the next `at_once` rooms off the front, at least one if there are some. None of them has stopped.
 pub(crate) fn take_next(
     all: &mut Vec<Visited>,
@@ -54,9 +87,7 @@ fn is_next_before(tasks: &VecDeque<Task>, end: usize) -> bool {
 pub(crate) fn visit_all<G: Gate>(
     rooms: &[RuledRoom],
     all: &mut Vec<Visited>,
-    gate: &G,
-    worker: u8,
-    visits: &mut u64,
+    visits: &mut Visits<'_, G>,
 )
     requires { All (λ one. IsVisitedOf rooms.now one) all.old.items }
     ensures visited { All (λ one. IsVisitedOf rooms.now one) all.new.items }
@@ -65,7 +96,7 @@ pub(crate) fn visit_all<G: Gate>(
 {
     let mut going = all.len();
     while going > 0 {
-        going = go_round(rooms, all.as_mut_slice(), going, gate, worker, visits);
+        going = go_round(rooms, all.as_mut_slice(), going, visits);
     }
 }
 
@@ -75,9 +106,7 @@ fn go_round<G: Gate>(
     rooms: &[RuledRoom],
     all: &mut [Visited],
     going: usize,
-    gate: &G,
-    worker: u8,
-    visits: &mut u64,
+    visits: &mut Visits<'_, G>,
 ) -> usize
     requires visited { All (λ one. IsVisitedOf rooms.now one) all.old }
     requires going { going ≤ length all.old }
@@ -90,7 +119,7 @@ fn go_round<G: Gate>(
 {
     let mut kept = 0;
     for at in 0..going {
-        if visit(rooms, &mut all[at], gate, worker, visits) {
+        if visit(rooms, &mut all[at], visits) {
             put_forward(all, kept, at);
             kept += 1;
         }
@@ -110,13 +139,7 @@ fn put_forward(all: &mut [Visited], kept: usize, at: usize)
 }
 
 /// Lets one take its next turn, if it hasn't stopped. Answers whether it goes on.
-fn visit<G: Gate>(
-    rooms: &[RuledRoom],
-    one: &mut Visited,
-    gate: &G,
-    worker: u8,
-    visits: &mut u64,
-) -> bool
+fn visit<G: Gate>(rooms: &[RuledRoom], one: &mut Visited, visits: &mut Visits<'_, G>) -> bool
     requires { IsVisitedOf rooms.now one.old }
     ensures visited { IsVisitedOf rooms.now one.new }
     ensures same { (one.new.task.place ≡ one.old.task.place) × (one.new.task.simulator.number ≡ one.old.task.simulator.number) }
@@ -126,7 +149,7 @@ fn visit<G: Gate>(
     if one.stop.is_some() {
         return false;
     }
-    one.stop = take_turn(rooms, &mut one.task, gate, worker, visits);
+    one.stop = take_turn(rooms, &mut one.task, visits);
     one.stop.is_none()
 }
 
@@ -135,17 +158,14 @@ fn visit<G: Gate>(
 fn take_turn<G: Gate>(
     rooms: &[RuledRoom],
     task: &mut Task,
-    gate: &G,
-    worker: u8,
-    visits: &mut u64,
+    visits: &mut Visits<'_, G>,
 ) -> Option<Stop>
     requires { IsTaskOf rooms.now task.old }
     ensures visited { IsVisitedBy rooms.now task.new result }
     ensures same { (task.new.place ≡ task.old.place) × (task.new.simulator.number ≡ task.old.simulator.number) }
     ensures less { left_by task.new result < left_by task.old None }
 {
-    gate.pass(worker, *visits);
-    *visits = visits.saturating_add(1);
+    visits.pass();
     turn(&mut task.simulator, &rooms[task.place], &task.fuse)
 }
 

@@ -7,7 +7,7 @@ ghost use Rattle.scheduler.specs.Tasks.{AreKept, AreTasksOf, BringsBack, IsStopp
 use crate::fuse::Fuse;
 use crate::gate::Gate;
 use crate::rooms::RunFault;
-use crate::visiting::{put_stopped, take_next, visit_all};
+use crate::visiting::{Visits, put_stopped, take_next, visit_all};
 use ruled_room::{Keeper, RuledRoom, Simulator, Stop};
 use std::alloc::{AllocError, Global};
 use std::collections::VecDeque;
@@ -49,25 +49,34 @@ impl Task {
     }
 }
 
-/// Takes the tasks of the first `at_once` rooms and goes round them in order, one visit each, until all have stopped; then those of the
+/// How workers go round the simulators of rooms.
+#[derive_where(Clone, Copy)]
+pub struct Course<'a, G> {
+    pub alloc: Global,
+    /// What each visit passes.
+    pub gate: &'a G,
+    /// Of how many rooms at a time a worker takes its tasks; 0 counts as 1. It goes round those of the first rooms until all of them have stopped, then round
+    /// those of the next, and so on: the words of a few rooms stay in the processor's cache.
+    pub at_once: usize,
+}
+
+/// Takes the tasks of the first rooms and goes round them in order, one visit each, until all have stopped; then those of the
 /// next rooms, and so on. A visit passes the gate and then takes a turn; a task that has stopped is not visited again.
 pub(crate) fn work<G: Gate>(
-    alloc: Global,
+    course: Course<'_, G>,
     rooms: &[RuledRoom],
     mut tasks: VecDeque<Task>,
-    at_once: usize,
-    gate: &G,
     worker: u8,
 ) -> Result<Vec<Stopped>, AllocError>
     requires { All (λ task. IsTaskOf rooms.now task) tasks.items }
     ensures { IfOk result (λ done. BringsBack rooms.now tasks.items done.items) }
 {
-    let mut all = Vec::with_capacity(alloc, tasks.len())?;
-    let mut done = Vec::with_capacity(alloc, tasks.len())?;
-    let mut visits: u64 = 0;
+    let mut all = Vec::with_capacity(course.alloc, tasks.len())?;
+    let mut done = Vec::with_capacity(course.alloc, tasks.len())?;
+    let mut visits = Visits::none(course.gate, worker);
     while !tasks.is_empty() {
-        take_next(&mut all, &mut tasks, at_once)?;
-        visit_all(rooms, &mut all, gate, worker, &mut visits);
+        take_next(&mut all, &mut tasks, course.at_once)?;
+        visit_all(rooms, &mut all, &mut visits);
         put_stopped(&mut done, &mut all)?;
     }
     Ok(done)
@@ -87,16 +96,14 @@ impl<'a> Promise<Result<Vec<Stopped>, AllocError>> for Given<'a> {
     ghost kept_by = { λ given result. IfOk result (λ done. BringsBack given.rooms.now given.tasks.value.items done.items) };
 }
 
-/// Runs all tasks, each queue by a worker of its own, all at the same time, and brings them back; a worker runs those of `at_once` rooms
-/// at a time. The first worker has the calling thread, each other one a thread of its own.
+/// Runs all tasks, each queue by a worker of its own, all at the same time, and brings them back. The first worker has the calling
+/// thread, each other one a thread of its own.
 pub(crate) fn run_all<R: Threads + Wait + Sync, G: Gate + Sync>(
     rt: &R,
-    alloc: Global,
+    course: Course<'_, G>,
     rooms: &[RuledRoom],
     keepers: Vec<Keeper>,
     queues: Vec<VecDeque<Task>>,
-    at_once: usize,
-    gate: &G,
 ) -> Result<Vec<Keeper>, RunFault>
     requires kept { AreKept rooms.now keepers.items }
     requires tasks { AreTasksOf rooms.now (map (λ queue. queue.items) queues.items) }
@@ -106,6 +113,11 @@ pub(crate) fn run_all<R: Threads + Wait + Sync, G: Gate + Sync>(
     ensures home { IfOk result (λ keepers. (k i : ℕ) → away keepers.items k i ≡ 0) }
     ensures fault { IfErr result (λ fault. fault ≢ Workers) }
 {
+    let Course {
+        alloc,
+        gate,
+        at_once,
+    } = course;
     thread::scope(
         thread::scope_env(),
         rt,
@@ -116,19 +128,24 @@ pub(crate) fn run_all<R: Threads + Wait + Sync, G: Gate + Sync>(
                 (length queues.items ≤ 16) }
             ensures { IfOk result (λ keepers. AreKept rooms.entry.now keepers.items × ((k i : ℕ) → away keepers.items k i ≡ 0)) ×
                 IfErr result (λ fault. fault ≢ Workers) }
-        { run_within(rt, alloc, scope, rooms, keepers, queues, at_once, gate) },
+        {
+            let course = Course {
+                alloc,
+                gate,
+                at_once,
+            };
+            run_within(rt, scope, course, rooms, keepers, queues)
+        },
     )
 }
 
 fn run_within<'s, E, R: Threads + Sync, G: Gate + Sync>(
     rt: &R,
-    alloc: Global,
     scope: &Scope<'s, E>,
+    course: Course<'s, G>,
     rooms: &'s [RuledRoom],
     mut keepers: Vec<Keeper>,
     queues: Vec<VecDeque<Task>>,
-    at_once: usize,
-    gate: &'s G,
 ) -> Result<Vec<Keeper>, RunFault>
     requires kept { AreKept rooms.now keepers.items }
     requires tasks { AreTasksOf rooms.now (map (λ queue. queue.items) queues.items) }
@@ -137,16 +154,7 @@ fn run_within<'s, E, R: Threads + Sync, G: Gate + Sync>(
     ensures { IfOk result (λ keepers. AreKept rooms.entry.now keepers.items × ((k i : ℕ) → away keepers.items k i ≡ 0)) ×
         IfErr result (λ fault. fault ≢ Workers) }
 {
-    start_each(
-        rt,
-        alloc,
-        scope,
-        rooms,
-        keepers.as_mut_slice(),
-        queues,
-        at_once,
-        gate,
-    )?;
+    start_each(rt, scope, course, rooms, keepers.as_mut_slice(), queues)?;
     Ok(keepers)
 }
 
@@ -154,13 +162,11 @@ fn run_within<'s, E, R: Threads + Sync, G: Gate + Sync>(
 /// first one's work; then joins them, and takes back what they bring.
 fn start_each<'s, E, R: Threads + Sync, G: Gate + Sync>(
     rt: &R,
-    alloc: Global,
     scope: &Scope<'s, E>,
+    course: Course<'s, G>,
     rooms: &'s [RuledRoom],
     keepers: &mut [Keeper],
     mut queues: Vec<VecDeque<Task>>,
-    at_once: usize,
-    gate: &'s G,
 ) -> Result<(), RunFault>
     requires kept { AreKept rooms.now keepers.old }
     requires tasks { AreTasksOf rooms.now (map (λ queue. queue.items) queues.items) }
@@ -175,10 +181,15 @@ fn start_each<'s, E, R: Threads + Sync, G: Gate + Sync>(
     };
     let worker = queues.len() as u8;
     if worker == 0 {
-        let done = work(alloc, rooms, tasks, at_once, gate, worker)?;
+        let done = work(course, rooms, tasks, worker)?;
         bring_back(rooms, keepers, done);
         return Ok(());
     }
+    let Course {
+        alloc,
+        gate,
+        at_once,
+    } = course;
     let given = Given {
         rooms,
         tasks: Snapshot::of(&tasks),
@@ -186,11 +197,18 @@ fn start_each<'s, E, R: Threads + Sync, G: Gate + Sync>(
     let run = move || -> Result<Vec<Stopped>, AllocError>
         requires { All (λ task. IsTaskOf rooms.now task) tasks.items }
         ensures { IfOk result (λ done. BringsBack rooms.entry.now tasks.items done.items) }
-    { work(alloc, rooms, tasks, at_once, gate, worker) };
+    {
+        let course = Course {
+            alloc,
+            gate,
+            at_once,
+        };
+        work(course, rooms, tasks, worker)
+    };
     let Ok(handle) = scope.spawn_with(given, run) else {
         return Err(RunFault::Spawn);
     };
-    let others = start_each(rt, alloc, scope, rooms, keepers, queues, at_once, gate);
+    let others = start_each(rt, scope, course, rooms, keepers, queues);
     let done = handle.join(rt);
     others?;
     bring_back(rooms, keepers, done?);

@@ -16,7 +16,7 @@ use Rattle.service_core.specs.Runs.{is_want}
 use Rattle.room_files.specs.Blocks.{refused_line}
 use Rattle.room_files.specs.declared.outcome.Outcome.{Outcome}
 use Rattle.script_play.specs.Script.{Entry, Ask, asked, steps_for}
-use Rattle.script_play.specs.Play.{AreDone, Done, IsDone, ending_if, ending_of, ending_with, is_lack, is_lacking, is_refusal, is_refused, refusal_in}
+use Rattle.script_play.specs.Play.{AreDone, Done, IsDone, ending_if, ending_of, ending_with, is_memory_refusal, ran_out_of_memory, is_refusal, is_refused, refusal_in}
 
 -- ---- one entry more
 
@@ -33,12 +33,12 @@ any-push test (y ∷ xs) x = ap (λ b. test y || b) (any-push test xs x) ∙ or_
     or_assoc false b c = refl
 
 -- the end of a script with one entry more
-pub ending-push : (all : List Done) (done : Done) → ending_with (is_lacking done) (is_refused done) (ending_of all) ≡ ending_of (all ++ done ∷ [])
+pub ending-push : (all : List Done) (done : Done) → ending_with (ran_out_of_memory done) (is_refused done) (ending_of all) ≡ ending_of (all ++ done ∷ [])
 ending-push all done =
-    by (list_any is_lacking all) (list_any is_refused all) (is_lacking done) (is_refused done)
-    ∙ ap₂ ending_if (sym (any-push is_lacking all done)) (sym (any-push is_refused all done))
+    by (list_any ran_out_of_memory all) (list_any is_refused all) (ran_out_of_memory done) (is_refused done)
+    ∙ ap₂ ending_if (sym (any-push ran_out_of_memory all done)) (sym (any-push is_refused all done))
   where
-    by : (lacking refused lacks refuses : Bool) → ending_with lacks refuses (ending_if lacking refused) ≡ ending_if (lacking || lacks) (refused || refuses)
+    by : (ran_out refused lacks refuses : Bool) → ending_with lacks refuses (ending_if ran_out refused) ≡ ending_if (ran_out || lacks) (refused || refuses)
     by true refused true refuses = refl
     by false refused true refuses = refl
     by true refused false true = refl
@@ -50,10 +50,10 @@ ending-push all done =
 
 -- the end with one reply more
 pub ends_by : (reply : Reply) (refusal : Option Refusal) (ending : Result Outcome AllocError) → refusal ≡ refusal_in reply
-    → ending_with (is_lack refusal) (is_some refusal) ending ≡ ending_with (is_want reply) (is_refusal reply) ending
-ends_by reply refusal ending is = ap (λ (r : Option Refusal). ending_with (is_lack r) (is_some r) ending) is ∙ by reply
+    → ending_with (is_memory_refusal refusal) (is_some refusal) ending ≡ ending_with (is_want reply) (is_refusal reply) ending
+ends_by reply refusal ending is = ap (λ (r : Option Refusal). ending_with (is_memory_refusal r) (is_some r) ending) is ∙ by reply
   where
-    by : (reply : Reply) → ending_with (is_lack (refusal_in reply)) (is_some (refusal_in reply)) ending ≡ ending_with (is_want reply) (is_refusal reply) ending
+    by : (reply : Reply) → ending_with (is_memory_refusal (refusal_in reply)) (is_some (refusal_in reply)) ending ≡ ending_with (is_want reply) (is_refusal reply) ending
     by Begun = refl
     by (Steps taken last) = refl
     by (Crash answer) = refl
@@ -92,5 +92,5 @@ steps_asked name sim count command e = by (is_name name) e
 -- ---- what is written
 
 -- the line of a block that was not read
-pub lack_line : (output now : List ℕ) (line code : ℕ) → code ≡ 8 → now ≡ output ++ refused_line line (decimal code) → now ≡ output ++ refused_line line (codes "8")
-lack_line output now line code is text = text ∙ ap (λ (t : List ℕ). output ++ refused_line line t) (ap decimal is ∙ decimal_digit 8 (omega arith))
+pub out_of_memory_line : (output now : List ℕ) (line code : ℕ) → code ≡ 8 → now ≡ output ++ refused_line line (decimal code) → now ≡ output ++ refused_line line (codes "8")
+out_of_memory_line output now line code is text = text ∙ ap (λ (t : List ℕ). output ++ refused_line line t) (ap decimal is ∙ decimal_digit 8 (omega arith))

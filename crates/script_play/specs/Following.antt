@@ -11,7 +11,7 @@ use Rattle.service_core.specs.Replies.{name_in}
 use Rattle.service_core.specs.Rooms.{Applies, Entries, room_at, steps_of}
 use Rattle.room_files.specs.declared.outcome.Outcome.{Outcome}
 use Rattle.script_play.specs.Script.{Entry, script_says}
-use Rattle.script_play.specs.Play.{AreDone, AreReplies, Done, Faulty, Replied, Unread, commands_of, ending_of, ending_with, is_lacking, is_refused, replies_in}
+use Rattle.script_play.specs.Play.{AreDone, AreReplies, Done, Faulty, Replied, Unread, commands_of, ending_of, ending_with, ran_out_of_memory, is_refused, replies_in}
 use Rattle.script_play.specs.declared.following.Asked.{Asked}
 use Rattle.script_play.specs.declared.following.Order.{Order}
 use Rattle.script_play.specs.declared.following.Order.TheVariants as orders
@@ -90,4 +90,4 @@ pub record Happens {F W : Type 0} (readies : F → Entries → Command → F →
 pub record GoesOn {F : Type 0} (follows : F → Entries → Done → Entries → F → Type 0) (rooms : Entries) (first : F) (ending : Result Outcome AllocError) (done : Done) (after : Entries) (last : F) (ending_now : Result Outcome AllocError) : Type 0 where
   pub leaves : Leaves rooms done after
   pub is_followed : follows first rooms done after last
-  pub ends : ending_now ≡ ending_with (is_lacking done) (is_refused done) ending
+  pub ends : ending_now ≡ ending_with (ran_out_of_memory done) (is_refused done) ending

@@ -23,7 +23,7 @@ use Rattle.script_play.specs.ReplyTexts.{reply_to_command}
 
 -- ---- replies to commands
 
--- Each name's replies rest on its own commands alone. Those for which an allocation failed are as if they had not been; they begin
+-- Each name's replies rest on nothing but its own commands. Those for which an allocation failed are as if they had not been; they begin
 -- a room under a free name, or ask for an open one's report. Each report is a true one.
 pub record AreReplies (commands : List Command) (replies : List Reply) : Type 0 where
   pub count : length replies ≡ length commands
@@ -88,17 +88,17 @@ is_refused (Faulty line fault) = true
 is_refused (Unread line) = true
 
 -- because an allocation failed
-abbrev pub is_lacking : Done → Bool
-is_lacking (Replied command reply) = is_want reply
-is_lacking (Faulty line fault) = false
-is_lacking (Unread line) = true
+abbrev pub ran_out_of_memory : Done → Bool
+ran_out_of_memory (Replied command reply) = is_want reply
+ran_out_of_memory (Faulty line fault) = false
+ran_out_of_memory (Unread line) = true
 
 -- the end if nothing more went wrong: an allocation that failed comes before all other refusals
 abbrev pub ending_if : Bool → Bool → Result Outcome AllocError
-ending_if lacking refused = if lacking then Err alloc_error else Ok (outcome_if (not refused))
+ending_if ran_out refused = if ran_out then Err alloc_error else Ok (outcome_if (not refused))
 
 abbrev pub ending_of : List Done → Result Outcome AllocError
-ending_of all = ending_if (list_any is_lacking all) (list_any is_refused all)
+ending_of all = ending_if (list_any ran_out_of_memory all) (list_any is_refused all)
 
 -- The text that a script's entries lead to, line by line, and the end that goes with it.
 pub record IsPlayText (entries : List Entry) (ending : Result Outcome AllocError) (output : List ℕ) : Type 0 where
@@ -141,12 +141,12 @@ ending_at_refusal (Err fault) = Err fault
 
 -- the end with one entry more, which was refused or not, because an allocation failed or not
 abbrev pub ending_with : Bool → Bool → Result Outcome AllocError → Result Outcome AllocError
-ending_with lacking refused ending = if lacking then Err alloc_error else if refused then ending_at_refusal ending else ending
+ending_with ran_out refused ending = if ran_out then Err alloc_error else if refused then ending_at_refusal ending else ending
 
 -- a refusal because an allocation failed
-abbrev pub is_lack : Option Refusal → Bool
-is_lack None = false
-is_lack (Some NoRoom) = false
-is_lack (Some NameTaken) = false
-is_lack (Some NoSimulator) = false
-is_lack (Some OutOfMemory) = true
+abbrev pub is_memory_refusal : Option Refusal → Bool
+is_memory_refusal None = false
+is_memory_refusal (Some NoRoom) = false
+is_memory_refusal (Some NameTaken) = false
+is_memory_refusal (Some NoSimulator) = false
+is_memory_refusal (Some OutOfMemory) = true

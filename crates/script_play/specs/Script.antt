@@ -98,16 +98,16 @@ abbrev pub is_open : List ℕ → Bool
 is_open line = bytes_eq line (codes "open")
 
 -- the block that belongs to a line, after which the text goes on so
-abbrev pub block_behind : List ℕ → List ℕ → List ℕ
-block_behind line text = if is_open line then take (block_extent text) text else []
+abbrev pub block_after : List ℕ → List ℕ → List ℕ
+block_after line text = if is_open line then take (block_extent text) text else []
 
 -- what comes after the line and its block
-abbrev pub text_behind : List ℕ → List ℕ → List ℕ
-text_behind line text = if is_open line then drop (block_extent text) text else text
+abbrev pub text_after : List ℕ → List ℕ → List ℕ
+text_after line text = if is_open line then drop (block_extent text) text else text
 
 -- the script begins with the line `open` and this block, or with this other line
 abbrev pub StandsFirst : List ℕ → First → Type 0
-StandsFirst script (first.Block block) = (is_open (first_line script) ≡ true) × (block.now ≡ block_behind (first_line script) (later_lines script))
+StandsFirst script (first.Block block) = (is_open (first_line script) ≡ true) × (block.now ≡ block_after (first_line script) (later_lines script))
 StandsFirst script (first.Line line) = (is_open (first_line script) ≡ false) × (line.now ≡ first_line script)
 
 -- how many lines that is
@@ -145,7 +145,7 @@ script_from (suc most) number [] = Ok []
 script_from (suc most) number (byte ∷ bytes) =
     let line = first_line (byte ∷ bytes) in
     let later = later_lines (byte ∷ bytes) in
-    and_then (entry_at number line (block_behind line later)) (script_from most (number + 1 + length (text_lines (block_behind line later))) (text_behind line later))
+    and_then (entry_at number line (block_after line later)) (script_from most (number + 1 + length (text_lines (block_after line later))) (text_after line later))
 
 -- a script has no more entries than bytes
 abbrev pub script_says : List ℕ → Result (List Entry) FaultAt

@@ -3,7 +3,7 @@ ghost use Rattle.std.specs.Prelude.{◌≡◌, ◌<◌, ◌≤◌, ◌+◌, Matc
 ghost use Rattle.service_core.specs.declared.command.Command.{Command as CommandData};
 ghost use Rattle.room_spec.specs.Texts.{fields_of, first_line, later_lines};
 ghost use Rattle.room_files.specs.Blocks.{block_extent};
-ghost use Rattle.script_play.specs.Script.{IsCommandLine, StandsFirst, bare_command, command_in, command_of, command_to, entry_lines, number_within, text_behind};
+ghost use Rattle.script_play.specs.Script.{IsCommandLine, StandsFirst, bare_command, command_in, command_of, command_to, entry_lines, number_within, text_after};
 
 use protocol_lang::read_number;
 use room_files::count_lines;
@@ -123,7 +123,7 @@ impl Entry<'_> {
 pub(crate) fn next_entry(script: &[u8]) -> Option<(Entry<'_>, &[u8])>
     ensures none { MatchOption result (script.now ≡ []) (λ r. 0 < length script.now) }
     ensures entry { IfSome result (λ r. StandsFirst script.now r.0) }
-    ensures rest { IfSome result (λ r. r.1.now ≡ text_behind (first_line script.now) (later_lines script.now)) }
+    ensures rest { IfSome result (λ r. r.1.now ≡ text_after (first_line script.now) (later_lines script.now)) }
     ensures shorter { IfSome result (λ r. length r.1.now < length script.now) }
     ensures few { IfSome result (λ r. entry_lines r.0 + length r.1.now ≤ length script.now) }
 {

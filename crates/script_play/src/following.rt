@@ -155,7 +155,7 @@ pub trait Follows: Drop {
         ensures { OnOk result ((rooms : Entries) → follows self.old rooms (Faulty line fault) rooms self.new) };
 
     /// Follows that a block was refused because an allocation failed. Its first line has this number.
-    fn lack(&mut self, line: u64) -> Result<(), AllocError>
+    fn out_of_memory(&mut self, line: u64) -> Result<(), AllocError>
         ensures { OnOk result ((rooms : Entries) → follows self.old rooms (Unread line) rooms self.new) };
 }
 

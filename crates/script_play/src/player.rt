@@ -9,7 +9,7 @@ ghost use Rattle.service_core.specs.Rooms.{Applies, Entries, room_at, steps_of};
 ghost use Rattle.room_files.specs.declared.outcome.Outcome.TheVariants.{AllWell};
 ghost use Rattle.room_spec.specs.Names.{is_name};
 ghost use Rattle.script_play.specs.Script.{Entry as EntryData, Open, asks_at, command_in, is_asking};
-ghost use Rattle.script_play.specs.Play.{Done, Faulty, IsBlockOf, IsDone, OpensNone, Replied, Unread, ending_with, is_lack};
+ghost use Rattle.script_play.specs.Play.{Done, Faulty, IsBlockOf, IsDone, OpensNone, Replied, Unread, ending_with, is_memory_refusal};
 ghost use Rattle.script_play.specs.Following.{AreWatched, GoesOn, IsAsked};
 
 use crate::entries::{Entry, read_command};
@@ -94,7 +94,7 @@ impl<F: Follows> Player<F> {
         match read_room(alloc, block) {
             Ok(Ok((spec, len))) => self.begin(alloc, &block[..len], spec),
             Ok(Err(fault)) => self.refuse(number, fault),
-            Err(AllocError) => self.lack(number),
+            Err(AllocError) => self.out_of_memory(number),
         }
     }
 
@@ -122,11 +122,11 @@ impl<F: Follows> Player<F> {
     }
 
     /// Refuses a block because an allocation failed. Its first line has this number.
-    fn lack(&mut self, number: u64) -> Result<(), AllocError>
+    fn out_of_memory(&mut self, number: u64) -> Result<(), AllocError>
         ensures { OnOk result (GoesOn F.follows self.old.service self.old.follower self.old.ending (Unread number) self.new.service self.new.follower self.new.ending) }
     {
         self.ending = Err(AllocError);
-        self.follower.lack(number)
+        self.follower.out_of_memory(number)
     }
 
     /// Does a command, which opens no room.
@@ -255,7 +255,7 @@ fn ending_with(
     refusal: Option<Refusal>,
     ending: Result<Outcome, AllocError>,
 ) -> Result<Outcome, AllocError>
-    ensures { result ≡ ending_with (is_lack refusal) (is_some refusal) ending }
+    ensures { result ≡ ending_with (is_memory_refusal refusal) (is_some refusal) ending }
 {
     match refusal {
         None => ending,

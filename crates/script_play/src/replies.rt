@@ -147,7 +147,7 @@ impl Follows for Replies {
         write_refused(&mut self.output, line, fault)
     }
 
-    fn lack(&mut self, line: u64) -> Result<(), AllocError> {
+    fn out_of_memory(&mut self, line: u64) -> Result<(), AllocError> {
         write_refused_code(&mut self.output, line, Refusal::OutOfMemory.code())
     }
 }

@@ -36,13 +36,24 @@ pub fn write_steps(
 ) -> Result<(), AllocError>
     ensures { OnOk result (output.new ≡ output.old ++ reply_text name.now sim (Steps taken last)) }
 {
-    output.put_two(name, b" step")?;
-    output.put_number(u64::from(sim))?;
+    write_step_of(output, name, sim)?;
     output.put_number(u64::from(taken))?;
     match last {
         StepReply::Stepped => output.put(b" stepped\n"), // of a length that is known
         _ => output.put(step_end(last)),
     }
+}
+
+/// Writes the name, ` step` and the simulator: in two pieces if its number has one digit, as that of each simulator of a room has.
+#[inline]
+fn write_step_of(output: &mut Text, name: &[u8], sim: u8) -> Result<(), AllocError>
+    ensures { OnOk result (output.new ≡ output.old ++ (name.now ++ (codes " step " ++ decimal sim))) }
+{
+    if sim < 10 {
+        return output.put_two(name, &[b' ', b's', b't', b'e', b'p', b' ', b'0' + sim]);
+    }
+    output.put_two(name, b" step")?;
+    output.put_number(u64::from(sim))
 }
 
 /// The end of the line on steps.

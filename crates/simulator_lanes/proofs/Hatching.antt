@@ -7,12 +7,12 @@ use Rattle.run_columns.specs.declared.column.Change.{Change}
 use Rattle.run_columns.specs.declared.column.Change.TheVariants.{Nothing, Crashes}
 use Rattle.run_columns.specs.declared.column.Column.{Column}
 use Rattle.run_columns.specs.declared.column.Scale.TheVariants.{Steps}
-use Rattle.run_columns.specs.declared.mark.Deed.{Deed}
-use Rattle.run_columns.specs.declared.mark.Deed.TheVariants.{StoreWrite, CountWrite, Snapshot, Propose, Enter, Look, Stand, Withdraw, Ask, LoadView, LoadValue, Decide}
+use Rattle.run_columns.specs.declared.mark.StepKind.{StepKind}
+use Rattle.run_columns.specs.declared.mark.StepKind.TheVariants.{StoreWrite, CountWrite, Snapshot, Propose, Enter, Look, Stand, Withdraw, Ask, LoadView, LoadValue, Decide}
 use Rattle.run_columns.specs.declared.mark.Mark.{Mark}
 use Rattle.run_columns.specs.declared.mark.Mark.TheVariants.{Step, Crash}
-use Rattle.run_columns.specs.Columns.{change_by, change_by_deed, column_of, columns_by, columns_from, columns_of, joins, next_column, simulator_of}
-use Rattle.run_columns.specs.Deeds.{is_same}
+use Rattle.run_columns.specs.Columns.{change_by, change_by_kind, column_of, columns_by, columns_from, columns_of, joins, next_column, simulator_of}
+use Rattle.run_columns.specs.StepKinds.{is_same}
 use Rattle.run_columns.proofs.CallerLemmas.{one_each}
 use Rattle.simulator_lanes.specs.declared.lanes.Phase.{Phase}
 use Rattle.simulator_lanes.specs.declared.lanes.Phase.TheVariants.{Outside, Inside, Stuck}
@@ -87,10 +87,10 @@ unsafe_next simulator unsafe mark = cond (passes simulator mark) (is_entry (Some
 crashed_next : ℕ → Bool → Mark → Bool
 crashed_next simulator crashed mark = cond (enters_or_crashes simulator mark) (is_crash (Some mark)) crashed
 
-step_after : (same : Bool) (deed : Deed) (unsafe crashed : Bool)
-    → phase_after (cond same (change_by_deed deed) Nothing) (phase_by unsafe crashed) ≡ phase_by (cond (same && is_passage deed) (is_same deed Enter) unsafe) (cond (same && is_same deed Enter) false crashed)
+step_after : (same : Bool) (kind : StepKind) (unsafe crashed : Bool)
+    → phase_after (cond same (change_by_kind kind) Nothing) (phase_by unsafe crashed) ≡ phase_by (cond (same && is_passage kind) (is_same kind Enter) unsafe) (cond (same && is_same kind Enter) false crashed)
 unfolding phase_by
-step_after false deed unsafe crashed = refl
+step_after false kind unsafe crashed = refl
 step_after true StoreWrite unsafe crashed = refl
 step_after true CountWrite unsafe crashed = refl
 step_after true Snapshot unsafe crashed = refl
@@ -114,7 +114,7 @@ crash_after true true true = refl
 mark_after : (simulator : ℕ) (mark : Mark) (unsafe crashed : Bool)
     → phase_after (change_of simulator mark) (phase_by unsafe crashed) ≡ phase_by (unsafe_next simulator unsafe mark) (crashed_next simulator crashed mark)
 unfolding change_of unsafe_next crashed_next
-mark_after simulator (Step step) unsafe crashed = step_after (step.simulator == simulator) step.deed unsafe crashed
+mark_after simulator (Step step) unsafe crashed = step_after (step.simulator == simulator) step.kind unsafe crashed
 mark_after simulator (Crash other) unsafe crashed = crash_after (other == simulator) unsafe crashed
 
 unsafe_from : ℕ → Bool → List Mark → Bool
@@ -212,10 +212,10 @@ unfolding hatch_by
 enters_in grid simulator place false = refl
 enters_in grid simulator place true = refl
 
-step_in : (grid : Grid) (simulator place : ℕ) (same : Bool) (deed : Deed) (unsafe crashed : Bool)
-    → inside grid simulator place (phase_in (cond same (change_by_deed deed) Nothing) (phase_by unsafe crashed))
-    ≡ hatch_by grid simulator place unsafe (cond (same && is_passage deed) (is_same deed Enter) unsafe) (cond (same && is_same deed Enter) false crashed)
-step_in grid simulator place false deed unsafe crashed = still_in grid simulator place unsafe crashed
+step_in : (grid : Grid) (simulator place : ℕ) (same : Bool) (kind : StepKind) (unsafe crashed : Bool)
+    → inside grid simulator place (phase_in (cond same (change_by_kind kind) Nothing) (phase_by unsafe crashed))
+    ≡ hatch_by grid simulator place unsafe (cond (same && is_passage kind) (is_same kind Enter) unsafe) (cond (same && is_same kind Enter) false crashed)
+step_in grid simulator place false kind unsafe crashed = still_in grid simulator place unsafe crashed
 step_in grid simulator place true StoreWrite unsafe crashed = still_in grid simulator place unsafe crashed
 step_in grid simulator place true CountWrite unsafe crashed = still_in grid simulator place unsafe crashed
 step_in grid simulator place true Snapshot unsafe crashed = still_in grid simulator place unsafe crashed
@@ -240,7 +240,7 @@ crash_in grid simulator place true true true = refl
 mark_in : (grid : Grid) (simulator place : ℕ) (mark : Mark) (unsafe crashed : Bool)
     → inside grid simulator place (phase_in (change_of simulator mark) (phase_by unsafe crashed)) ≡ hatch_by grid simulator place unsafe (unsafe_next simulator unsafe mark) (crashed_next simulator crashed mark)
 unfolding change_of unsafe_next crashed_next
-mark_in grid simulator place (Step step) unsafe crashed = step_in grid simulator place (step.simulator == simulator) step.deed unsafe crashed
+mark_in grid simulator place (Step step) unsafe crashed = step_in grid simulator place (step.simulator == simulator) step.kind unsafe crashed
 mark_in grid simulator place (Crash other) unsafe crashed = crash_in grid simulator place (other == simulator) unsafe crashed
 
 hatch_is : (grid : Grid) (simulator : ℕ) (before : List Mark) (mark : Mark)

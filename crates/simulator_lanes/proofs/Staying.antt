@@ -5,13 +5,13 @@ use Rattle.std.proofs.lemmas.Bool.{cases_lt}
 use Rattle.std.proofs.lemmas.List.{append-nil, append_assoc, length-append}
 use Rattle.picture_shapes.specs.declared.colour.Colour.TheVariants.{Hatched, Pale}
 use Rattle.picture_shapes.specs.declared.shape.Shape.{Shape}
-use Rattle.run_columns.specs.declared.mark.Deed.{Deed}
-use Rattle.run_columns.specs.declared.mark.Deed.TheVariants.{Enter}
+use Rattle.run_columns.specs.declared.mark.StepKind.{StepKind}
+use Rattle.run_columns.specs.declared.mark.StepKind.TheVariants.{Enter}
 use Rattle.run_columns.specs.declared.mark.Mark.{Mark}
 use Rattle.run_columns.specs.declared.mark.Mark.TheVariants.{Step}
 use Rattle.run_columns.specs.declared.mark.Step.{Step as StepMark}
 use Rattle.run_columns.specs.Columns.{columns_of}
-use Rattle.run_columns.specs.Deeds.{is_same}
+use Rattle.run_columns.specs.StepKinds.{is_same}
 use Rattle.simulator_lanes.specs.declared.layout.Grid.{Grid}
 use Rattle.simulator_lanes.specs.Lanes.{inside_at, lane_insides}
 use Rattle.simulator_lanes.specs.Layout.{cell}
@@ -99,18 +99,18 @@ hatched_since grid simulator before mark (next ∷ since) unsafe stays few place
       subst (IsHatchedAt grid (before ++ mark ∷ next ∷ since) simulator) here (hatched_here grid simulator before mark (next ∷ since) unsafe few)
 ]
 
-entry_passes : (entry : StepMark) (simulator : ℕ) → entry.deed ≡ Enter → entry.simulator ≡ simulator → passes simulator (Step entry) ≡ true
+entry_passes : (entry : StepMark) (simulator : ℕ) → entry.kind ≡ Enter → entry.simulator ≡ simulator → passes simulator (Step entry) ≡ true
 entry_passes entry simulator enters by =
-    ap (λ (b : Bool). b && is_passage entry.deed) (eq-eqb entry.simulator simulator by) ∙ ap is_passage enters
+    ap (λ (b : Bool). b && is_passage entry.kind) (eq-eqb entry.simulator simulator by) ∙ ap is_passage enters
 
-enters_unsafe : (before : List Mark) (entry : StepMark) (simulator : ℕ) → entry.deed ≡ Enter → entry.simulator ≡ simulator → is_unsafe simulator (before ++ Step entry ∷ []) ≡ true
+enters_unsafe : (before : List Mark) (entry : StepMark) (simulator : ℕ) → entry.kind ≡ Enter → entry.simulator ≡ simulator → is_unsafe simulator (before ++ Step entry ∷ []) ≡ true
 unfolding unsafe_next
 enters_unsafe before entry simulator enters by =
     unsafe_after simulator before (Step entry)
     ∙ ap (λ (b : Bool). cond b (is_entry (Some (Step entry))) (is_unsafe simulator before)) (entry_passes entry simulator enters by)
-    ∙ ap (λ (deed : Deed). is_same deed Enter) enters
+    ∙ ap (λ (kind : StepKind). is_same kind Enter) enters
 
-pub hatched_to_the_end : (grid : Grid) (simulator : ℕ) (before since : List Mark) (entry : StepMark) → entry.deed ≡ Enter → entry.simulator ≡ simulator → list_any (passes simulator) since ≡ false
+pub hatched_to_the_end : (grid : Grid) (simulator : ℕ) (before since : List Mark) (entry : StepMark) → entry.kind ≡ Enter → entry.simulator ≡ simulator → list_any (passes simulator) since ≡ false
     → length (before ++ Step entry ∷ since) ≤ 400 → (place : ℕ) → length before ≤ place → place < length (before ++ Step entry ∷ since) → IsHatchedAt grid (before ++ Step entry ∷ since) simulator place
 hatched_to_the_end grid simulator before since entry enters by stays few place from to =
     hatched_since grid simulator before (Step entry) since (enters_unsafe before entry simulator enters by) stays few place from to

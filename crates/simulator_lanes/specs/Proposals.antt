@@ -12,7 +12,7 @@ use Rattle.picture_shapes.specs.Places.{frame_at, moved}
 use Rattle.run_columns.specs.declared.column.Column.{Column}
 use Rattle.run_columns.specs.declared.column.Scale.{Scale}
 use Rattle.run_columns.specs.declared.column.Scale.TheVariants.{Steps, Turns, Simulators}
-use Rattle.run_columns.specs.declared.mark.Deed.TheVariants.{Propose}
+use Rattle.run_columns.specs.declared.mark.StepKind.TheVariants.{Propose}
 use Rattle.run_columns.specs.declared.mark.Mark.{Mark}
 use Rattle.run_columns.specs.declared.mark.Mark.TheVariants.{Step, Crash}
 use Rattle.run_columns.specs.declared.mark.Step.{Step as StepMark}
@@ -20,7 +20,7 @@ use Rattle.run_columns.specs.declared.proposals.Agreement.{Agreement}
 use Rattle.run_columns.specs.declared.proposals.Fate.{Fate}
 use Rattle.run_columns.specs.declared.proposals.Fate.TheVariants.{Open, Chosen, Dropped}
 use Rattle.run_columns.specs.Columns.{simulator_of}
-use Rattle.run_columns.specs.Deeds.{is_same}
+use Rattle.run_columns.specs.StepKinds.{is_same}
 use Rattle.run_columns.specs.Proposals.{fate_of, proposal, word_number}
 use Rattle.step_words.specs.Sights.{counts_text}
 use Rattle.simulator_lanes.specs.declared.fonts.TheConstants.{DROPPED, PROPOSAL}
@@ -88,7 +88,7 @@ proposal_at panel corner step =
 
 -- a step completes a proposal if it stores the last of its words
 abbrev pub completes : ℕ → StepMark → Bool
-completes words step = is_same step.deed Propose && (word_number step.word + 1 == words)
+completes words step = is_same step.kind Propose && (word_number step.word + 1 == words)
 
 abbrev pub proposal_by : Mark → Panel → Point → List Shape
 proposal_by (Step step) panel corner = if completes (words_in panel) step then proposal_at panel corner step else []

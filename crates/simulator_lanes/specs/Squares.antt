@@ -16,7 +16,7 @@ use Rattle.run_columns.specs.declared.mark.Mark.{Mark}
 use Rattle.run_columns.specs.declared.mark.Mark.TheVariants.{Step, Crash}
 use Rattle.run_columns.specs.declared.mark.Step.{Step as StepMark}
 use Rattle.run_columns.specs.Columns.{more, simulator_of}
-use Rattle.run_columns.specs.Deeds.{is_marked, letter_of}
+use Rattle.run_columns.specs.StepKinds.{is_marked, letter_of}
 use Rattle.simulator_lanes.specs.declared.fonts.TheConstants.{DIGIT, LETTER, SMALL_BOLD}
 use Rattle.simulator_lanes.specs.declared.layout.Grid.{Grid}
 use Rattle.simulator_lanes.specs.Layout.{cell, dashes_for}
@@ -26,20 +26,20 @@ use Rattle.simulator_lanes.specs.Words.{counted, simulator_name, step_words}
 
 -- its square has the hue of its process; one that changes the agreement or decides is filled
 unfoldable pub step_fill : StepMark → Colour
-step_fill step = if is_marked step.deed then Hue step.process else White
+step_fill step = if is_marked step.kind then Hue step.process else White
 
 unfoldable pub step_ink : StepMark → Colour
-step_ink step = if is_marked step.deed then White else Hue step.process
+step_ink step = if is_marked step.kind then White else Hue step.process
 
 -- Of two processes with the same hue the second has dashed outlines, white ones if the square is filled.
 unfoldable pub step_outline : StepMark → Colour
-step_outline step = if is_marked step.deed && nat_le 8 step.process then White else Hue step.process
+step_outline step = if is_marked step.kind && nat_le 8 step.process then White else Hue step.process
 
 -- its letter, and the number of its word if it has one
 abbrev pub letter_shapes : Point → StepMark → Option ℕ → List Shape
-letter_shapes corner step None = Label (moved corner 8 19) LETTER (step_ink step) (letter_of step.deed) ∷ []
+letter_shapes corner step None = Label (moved corner 8 19) LETTER (step_ink step) (letter_of step.kind) ∷ []
 letter_shapes corner step (Some word) =
-    Label (moved corner 6 19) LETTER (step_ink step) (letter_of step.deed) ∷ Label (moved corner 12 19) DIGIT (step_ink step) (decimal word) ∷ []
+    Label (moved corner 6 19) LETTER (step_ink step) (letter_of step.kind) ∷ Label (moved corner 12 19) DIGIT (step_ink step) (decimal word) ∷ []
 
 unfoldable pub step_square : RoomSpec → Point → ℕ → StepMark → List Shape
 step_square spec corner number step =

@@ -4,32 +4,32 @@ use Rattle.std.specs.List.{filter, last_or}
 use Rattle.picture_shapes.specs.declared.colour.Colour.{Colour}
 use Rattle.picture_shapes.specs.declared.colour.Colour.TheVariants.{Hatched, Pale}
 use Rattle.picture_shapes.specs.declared.shape.Shape.{Shape}
-use Rattle.run_columns.specs.declared.mark.Deed.{Deed}
-use Rattle.run_columns.specs.declared.mark.Deed.TheVariants.{Enter, Stand, Withdraw}
+use Rattle.run_columns.specs.declared.mark.StepKind.{StepKind}
+use Rattle.run_columns.specs.declared.mark.StepKind.TheVariants.{Enter, Stand, Withdraw}
 use Rattle.run_columns.specs.declared.mark.Mark.{Mark}
 use Rattle.run_columns.specs.declared.mark.Mark.TheVariants.{Step, Crash}
 use Rattle.run_columns.specs.Columns.{columns_of}
-use Rattle.run_columns.specs.Deeds.{is_same}
+use Rattle.run_columns.specs.StepKinds.{is_same}
 use Rattle.simulator_lanes.specs.declared.layout.Grid.{Grid}
 use Rattle.simulator_lanes.specs.Lanes.{inside_at, lane_insides}
 use Rattle.simulator_lanes.specs.Layout.{cell}
 
-abbrev pub is_passage : Deed → Bool
-is_passage deed = is_same deed Enter || (is_same deed Stand || is_same deed Withdraw)
+abbrev pub is_passage : StepKind → Bool
+is_passage kind = is_same kind Enter || (is_same kind Stand || is_same kind Withdraw)
 
 -- a step by which this simulator enters an agreement or leaves it
 abbrev pub passes : ℕ → Mark → Bool
-passes simulator (Step step) = (step.simulator == simulator) && is_passage step.deed
+passes simulator (Step step) = (step.simulator == simulator) && is_passage step.kind
 passes simulator (Crash other) = false
 
 -- a step by which it enters one, or its crash
 abbrev pub enters_or_crashes : ℕ → Mark → Bool
-enters_or_crashes simulator (Step step) = (step.simulator == simulator) && is_same step.deed Enter
+enters_or_crashes simulator (Step step) = (step.simulator == simulator) && is_same step.kind Enter
 enters_or_crashes simulator (Crash other) = other == simulator
 
 abbrev pub is_entry : Option Mark → Bool
 is_entry None = false
-is_entry (Some (Step step)) = is_same step.deed Enter
+is_entry (Some (Step step)) = is_same step.kind Enter
 is_entry (Some (Crash simulator)) = false
 
 abbrev pub is_crash : Option Mark → Bool

@@ -1,9 +1,9 @@
 -- What steps do, in words.
 use Rattle.std.specs.Prelude.{ℕ, ◌+◌, ◌==◌, nat_le, List, [], ◌++◌, Option, Some, None, codes, decimal, length, take, if◌then◌else◌}
 use Rattle.room_spec.specs.Rooms.{RoomSpec}
-use Rattle.run_columns.specs.declared.mark.Deed.TheVariants.{Propose}
+use Rattle.run_columns.specs.declared.mark.StepKind.TheVariants.{Propose}
 use Rattle.run_columns.specs.declared.mark.Step.{Step as StepMark}
-use Rattle.run_columns.specs.Deeds.{is_same, verb_of}
+use Rattle.run_columns.specs.StepKinds.{is_same, verb_of}
 use Rattle.run_columns.specs.Proposals.{words_of}
 use Rattle.step_words.specs.Sights.{counts_text}
 
@@ -22,15 +22,15 @@ unfoldable pub simulator_name : ℕ → List ℕ
 simulator_name simulator = codes "simulator " ++ decimal simulator
 
 unfoldable pub actor_words : StepMark → List ℕ
-actor_words step = codes ": " ++ (simulator_name step.simulator ++ verb_of step.deed)
+actor_words step = codes ": " ++ (simulator_name step.simulator ++ verb_of step.kind)
 
 -- : simulator 0 enters the agreement on process 0, round 1
-unfoldable pub deed_words : StepMark → List ℕ
-deed_words step = actor_words step ++ (process_round step.process step.round ++ word_words step.word)
+unfoldable pub kind_words : StepMark → List ℕ
+kind_words step = actor_words step ++ (process_round step.process step.round ++ word_words step.word)
 
 -- what a step stores, if it proposes, in the words of `trace`: for each process how many writes of it the word shows
 abbrev pub stored_words : RoomSpec → StepMark → List ℕ
-stored_words spec step = if is_same step.deed Propose then codes ":" ++ counts_text spec (words_of step) else []
+stored_words spec step = if is_same step.kind Propose then codes ":" ++ counts_text spec (words_of step) else []
 
 -- what the simulator decides by a step, if it does
 unfoldable pub decision_words : Option ℕ → List ℕ
@@ -39,7 +39,7 @@ decision_words (Some decision) = codes "; the simulator decides " ++ decimal dec
 
 -- step 4: simulator 0 proposes its snapshot for process 0, round 1: 1 .
 unfoldable pub step_words : RoomSpec → ℕ → StepMark → List ℕ
-step_words spec number step = codes "step " ++ (decimal number ++ (deed_words step ++ (stored_words spec step ++ decision_words step.decision)))
+step_words spec number step = codes "step " ++ (decimal number ++ (kind_words step ++ (stored_words spec step ++ decision_words step.decision)))
 
 -- as much of a text as there is space for
 unfoldable pub clipped : ℕ → List ℕ → List ℕ

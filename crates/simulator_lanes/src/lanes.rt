@@ -7,7 +7,7 @@ use crate::fonts::{AXIS, WORDS};
 use crate::layout::{Grid, LANE, LEFT, MARGIN, across};
 use crate::words::{simulator_name, write_simulator};
 use io_text::Text;
-use picture_shapes::{Colour, Dashes, Frame, Point, Sheet, write_decimal};
+use picture_shapes::{Colour, Frame, Point, Sheet, Stroke, write_decimal};
 use run_columns::{Change, Column, Scale};
 use std::alloc::{AllocError, Global};
 
@@ -71,7 +71,7 @@ fn add_tick_at(sheet: &mut Sheet, top: Point, height: u64, steps: u64) -> Result
     requires { height ≤ 15000 }
     ensures { OnOk result (sheet.new ≡ sheet.old ++ tick_at top height steps) }
 {
-    sheet.line(top, top.moved(0, height), 1, Colour::Rule, Dashes::Solid)?;
+    sheet.line(top, top.moved(0, height), 1, Stroke::solid(Colour::Rule))?;
     let number = number_text(sheet.alloc(), steps)?;
     sheet.label(
         top.moved(0, height + 12),
@@ -133,13 +133,8 @@ fn add_lane_at(sheet: &mut Sheet, y: u64, right: u64, simulator: u8) -> Result<(
     sheet.label(start.moved(0, 19), WORDS, Colour::Ink, name.as_bytes())?;
     let from = Point { x: LEFT - 6, y };
     let to = Point { x: right, y };
-    sheet.line(
-        from.moved(0, 15),
-        to.moved(0, 15),
-        1,
-        Colour::Rule,
-        Dashes::Solid,
-    )
+    let stroke = Stroke::solid(Colour::Rule);
+    sheet.line(from.moved(0, 15), to.moved(0, 15), 1, stroke)
 }
 
 /// Hatches the lanes where their simulators are inside an agreement.
@@ -237,5 +232,5 @@ fn add_inside_at(
     ensures { OnOk result (sheet.new ≡ sheet.old ++ inside_at grid corner fill) }
 {
     let frame = Frame::at(corner.moved(0, 2), across(grid.scale, 1), 26);
-    sheet.area(frame, 0, fill, Colour::Clear, Dashes::Solid)
+    sheet.area(frame, 0, fill, Stroke::solid(Colour::Clear))
 }

@@ -2,7 +2,7 @@
 ghost use Rattle.std.specs.Prelude.{◌≡◌, ◌<◌, ◌≤◌, ◌⊎◌, ◌++◌, ◌∷◌, [], false, ℕ, List, length};
 ghost use Rattle.std.specs.List.{list_any};
 ghost use Rattle.run_columns.specs.Columns.{columns_of};
-ghost use Rattle.run_columns.specs.declared.mark.Deed.TheVariants.{Enter as EnterDeed};
+ghost use Rattle.run_columns.specs.declared.mark.StepKind.TheVariants.{Enter as EnterStepKind};
 ghost use Rattle.run_columns.specs.declared.mark.Mark.{Mark as MarkData};
 ghost use Rattle.run_columns.specs.declared.mark.Mark.TheVariants.{Step as StepOf};
 ghost use Rattle.run_columns.specs.declared.mark.Step.{Step as StepData};
@@ -35,6 +35,6 @@ pub fn hatched_in_the_unsafe_section()
 /// If a simulator enters an agreement, and neither leaves it nor enters another, its lane is hatched from the column of that step on to the last column.
 pub fn hatched_to_the_end()
     ensures { (grid : GridData) (simulator : ℕ) (before since : List MarkData) (entry : StepData) →
-        entry.deed ≡ EnterDeed → entry.simulator ≡ simulator → list_any (passes simulator) since ≡ false → length (before ++ StepOf entry ∷ since) ≤ 400 →
+        entry.kind ≡ EnterStepKind → entry.simulator ≡ simulator → list_any (passes simulator) since ≡ false → length (before ++ StepOf entry ∷ since) ≤ 400 →
         (place : ℕ) → length before ≤ place → place < length (before ++ StepOf entry ∷ since) → IsHatchedAt grid (before ++ StepOf entry ∷ since) simulator place }
 {}

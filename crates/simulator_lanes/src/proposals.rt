@@ -9,8 +9,8 @@ use crate::layout::Grid;
 use crate::panel::Panel;
 use crate::words::{clipped, write_process_round, write_simulator};
 use io_text::Text;
-use picture_shapes::{Colour, Dashes, Font, Frame, Point, Sheet};
-use run_columns::{Agreement, Column, Deed, Fate, Mark, Scale, Step};
+use picture_shapes::{Colour, Font, Frame, Point, Sheet, Stroke};
+use run_columns::{Agreement, Column, Fate, Mark, Scale, Step, StepKind};
 use std::alloc::{AllocError, Global};
 use step_words::write_counts;
 
@@ -85,7 +85,7 @@ fn completes(words: usize, step: &Step) -> bool
     requires { words ≤ 4 }
     ensures { result ≡ completes words step.now }
 {
-    step.deed.is_same(Deed::Propose) && word_number(step) + 1 == words
+    step.kind.is_same(StepKind::Propose) && word_number(step) + 1 == words
 }
 
 fn word_number(step: &Step) -> usize
@@ -181,8 +181,8 @@ fn add_proposal_box(
 {
     let (process, fate) = (proposal.step.process, proposal.fate);
     let frame = Frame::at(corner.moved(0, 47), proposal_width(words), 11);
-    let outline = fate_outline(fate, process);
-    sheet.area(frame, 2, Colour::White, outline, Dashes::Solid)?;
+    let outline = Stroke::solid(fate_outline(fate, process));
+    sheet.area(frame, 2, Colour::White, outline)?;
     let at = corner.moved(3, 55);
     sheet.label(at, fate_font(fate), Colour::Hue(process), words)?;
     sheet.hint(frame, hint)

@@ -9,7 +9,7 @@ use crate::lanes::number_text;
 use crate::layout::{Grid, dashes_for};
 use crate::words::{step_words, write_counted, write_simulator};
 use io_text::Text;
-use picture_shapes::{Colour, Dashes, Frame, Point, Sheet, write_decimal};
+use picture_shapes::{Colour, Frame, Point, Sheet, Stroke, write_decimal};
 use room_spec::Spec;
 use run_columns::{Column, Mark, Scale, Step};
 use std::alloc::{AllocError, Global};
@@ -83,8 +83,11 @@ fn add_step(
     ensures { OnOk result (sheet.new ≡ sheet.old ++ step_square spec.now corner number step.now) }
 {
     let frame = Frame::at(corner.moved(1, 7), 14, 16);
-    let (outline, dashes) = (step_outline(step), dashes_for(step.process));
-    sheet.area(frame, 3, step_fill(step), outline, dashes)?;
+    let outline = Stroke {
+        colour: step_outline(step),
+        dashes: dashes_for(step.process),
+    };
+    sheet.area(frame, 3, step_fill(step), outline)?;
     add_letter(sheet, corner, step)?;
     let words = step_words(sheet.alloc(), spec, number, step)?;
     sheet.hint(frame, words.as_bytes())
@@ -94,7 +97,7 @@ fn add_step(
 fn step_fill(step: &Step) -> Colour
     ensures { result ≡ step_fill step.now }
 {
-    if step.deed.is_marked() {
+    if step.kind.is_marked() {
         Colour::Hue(step.process)
     } else {
         Colour::White
@@ -105,7 +108,7 @@ fn step_fill(step: &Step) -> Colour
 fn step_ink(step: &Step) -> Colour
     ensures { result ≡ step_ink step.now }
 {
-    if step.deed.is_marked() {
+    if step.kind.is_marked() {
         Colour::White
     } else {
         Colour::Hue(step.process)
@@ -117,7 +120,7 @@ fn step_ink(step: &Step) -> Colour
 fn step_outline(step: &Step) -> Colour
     ensures { result ≡ step_outline step.now }
 {
-    if step.deed.is_marked() && step.process >= 8 {
+    if step.kind.is_marked() && step.process >= 8 {
         Colour::White
     } else {
         Colour::Hue(step.process)
@@ -129,7 +132,7 @@ fn add_letter(sheet: &mut Sheet, corner: Point, step: &Step) -> Result<(), Alloc
     ensures { OnOk result (sheet.new ≡ sheet.old ++ letter_shapes corner step.now step.now.word) }
 {
     let ink = step_ink(step);
-    let letter = step.deed.letter();
+    let letter = step.kind.letter();
     match step.word {
         None => sheet.label(corner.moved(8, 19), LETTER, ink, letter),
         Some(word) => {
@@ -152,7 +155,7 @@ fn add_stretch(
     ensures { OnOk result (sheet.new ≡ sheet.old ++ stretch corner simulator column.now hue) }
 {
     let frame = Frame::at(corner.moved(1, 7), 38, 16);
-    sheet.area(frame, 3, Colour::White, hue, Dashes::Solid)?;
+    sheet.area(frame, 3, Colour::White, Stroke::solid(hue))?;
     let count = number_text(sheet.alloc(), column.count)?;
     sheet.label(corner.moved(20, 19), LETTER, hue, count.as_bytes())?;
     let words = stretch_words(sheet.alloc(), simulator, column)?;
@@ -196,9 +199,9 @@ fn add_cross_lines(sheet: &mut Sheet, corner: Point) -> Result<(), AllocError>
     ensures { OnOk result (sheet.new ≡ sheet.old ++ cross_lines corner) }
 {
     let (left, right) = (corner.moved(2, 9), corner.moved(14, 21));
-    sheet.line(left, right, 3, Colour::Alarm, Dashes::Solid)?;
+    sheet.line(left, right, 3, Stroke::solid(Colour::Alarm))?;
     let (left, right) = (corner.moved(2, 21), corner.moved(14, 9));
-    sheet.line(left, right, 3, Colour::Alarm, Dashes::Solid)
+    sheet.line(left, right, 3, Stroke::solid(Colour::Alarm))
 }
 
 #[tactic(auto, unfolding(crate::specs::Squares::cross_word))]
@@ -206,7 +209,7 @@ fn add_cross_word(sheet: &mut Sheet, corner: Point) -> Result<(), AllocError>
     ensures { OnOk result (sheet.new ≡ sheet.old ++ cross_word corner) }
 {
     let frame = Frame::at(corner.moved(17, 7), 52, 16);
-    sheet.area(frame, 0, Colour::White, Colour::Clear, Dashes::Solid)?;
+    sheet.area(frame, 0, Colour::White, Stroke::solid(Colour::Clear))?;
     let at = corner.moved(20, 19);
     sheet.label(at, SMALL_BOLD, Colour::Alarm, b"crashed")
 }

@@ -6,7 +6,7 @@ use crate::fonts::SMALL;
 use crate::layout::{Grid, LEFT, across};
 use crate::words::{write_process_round, write_simulator};
 use io_text::Text;
-use picture_shapes::{Colour, Dashes, Frame, Point, Sheet, write_decimal};
+use picture_shapes::{Colour, Dashes, Frame, Point, Sheet, Stroke, write_decimal};
 use run_columns::{Column, Mark, Scale, Step};
 use simulator::Turn;
 use std::alloc::{AllocError, Global};
@@ -198,7 +198,11 @@ fn add_bar(
 {
     let hue = Colour::Hue(step.process);
     let right = start.moved(width.saturating_sub(1), 33);
-    sheet.line(start.moved(1, 33), right, 3, hue, bar_dashes(end))?;
+    let stroke = Stroke {
+        colour: hue,
+        dashes: bar_dashes(end),
+    };
+    sheet.line(start.moved(1, 33), right, 3, stroke)?;
     let name = turn_name(sheet.alloc(), width, step, end)?;
     sheet.label(start.moved(1, 44), SMALL, hue, name.as_bytes())?;
     let words = turn_words(sheet.alloc(), step, end)?;

@@ -1,11 +1,11 @@
 //! What steps do, in words.
 ghost use Rattle.std.specs.Prelude.{◌≡◌, ◌++◌, ◌≤◌, IfOk, OnOk};
-ghost use Rattle.simulator_lanes.specs.Words.{actor_words, clipped, counted, decision_words, deed_words, process_name, process_round, simulator_name, step_words, stored_words, word_words};
+ghost use Rattle.simulator_lanes.specs.Words.{actor_words, clipped, counted, decision_words, kind_words, process_name, process_round, simulator_name, step_words, stored_words, word_words};
 
 use io_text::Text;
 use picture_shapes::write_decimal;
 use room_spec::Spec;
-use run_columns::{Deed, Step};
+use run_columns::{Step, StepKind};
 use std::alloc::{AllocError, Global};
 use step_words::write_counts;
 
@@ -68,13 +68,13 @@ fn write_actor(output: &mut Text, step: &Step) -> Result<(), AllocError>
 {
     output.put(b": ")?;
     write_simulator(output, step.simulator)?;
-    output.put(step.deed.verb())
+    output.put(step.kind.verb())
 }
 
 /// Says what a step does, and for which process.
-#[tactic(auto, unfolding(crate::specs::Words::deed_words))]
-pub(crate) fn write_deed(output: &mut Text, step: &Step) -> Result<(), AllocError>
-    ensures { OnOk result (output.new ≡ output.old ++ deed_words step.now) }
+#[tactic(auto, unfolding(crate::specs::Words::kind_words))]
+pub(crate) fn write_kind(output: &mut Text, step: &Step) -> Result<(), AllocError>
+    ensures { OnOk result (output.new ≡ output.old ++ kind_words step.now) }
 {
     write_actor(output, step)?;
     write_process_round(output, step.process, step.round)?;
@@ -85,7 +85,7 @@ pub(crate) fn write_deed(output: &mut Text, step: &Step) -> Result<(), AllocErro
 fn write_stored(output: &mut Text, spec: &Spec, step: &Step) -> Result<(), AllocError>
     ensures { OnOk result (output.new ≡ output.old ++ stored_words spec.now step.now) }
 {
-    if !step.deed.is_same(Deed::Propose) {
+    if !step.kind.is_same(StepKind::Propose) {
         return Ok(());
     }
     let _words = spec.shape().memory_words(); // for the proof: at most four
@@ -118,7 +118,7 @@ pub(crate) fn step_words(
     let mut words = Text::new(alloc);
     words.put(b"step ")?;
     write_decimal(&mut words, number)?;
-    write_deed(&mut words, step)?;
+    write_kind(&mut words, step)?;
     write_stored(&mut words, spec, step)?;
     write_decision(&mut words, step.decision)?;
     Ok(words)

@@ -1,9 +1,8 @@
 -- The steps of a schedule are those that its simulators have counted.
 use Rattle.std.proofs.Common.{◌≡◌, ◌≢◌, ℕ, zero, suc, ◌+◌, ◌<◌, ◌≤◌, Bool, true, false, cond, eqb, List, [], ◌∷◌, refl, sym, ap, ap₂, ◌∙◌, subst, arith}
-use Rattle.std.specs.Prelude.{◌==◌}
 use Rattle.std.proofs.Math.ListN.{get_or-map}
 use Rattle.std.proofs.lemmas.Bool.{eq-eqb, eqb-true, ne_eqb}
-use Rattle.room_spec.specs.Rooms.{RoomSpec, IsWithinLimits}
+use Rattle.room_spec.specs.Rooms.{RoomSpec}
 use Rattle.simulator.specs.Minds.{MindState}
 use Rattle.simulator.specs.Ranges.{IsMind}
 use Rattle.simulator.specs.Sweeps.{SweepState, opening_sweep}
@@ -11,7 +10,7 @@ use Rattle.room_core.specs.Calls.{RoomState, configuration_of, sweep_at}
 use Rattle.room_core.specs.Counting.{total}
 use Rattle.room_core.specs.Rooms.{Configuration, IsLegal, IsOneInterleaving, ScheduleEvent, after_event, crashes, mind_at, opening, steps, times}
 use Rattle.room_core.proofs.CallerLemmas.{steps_within}
-use Rattle.step_words.specs.Told.{steps_in}
+use Rattle.step_words.specs.Reported.{steps_in}
 
 pub mind_is : (room : RoomState) (i : ℕ) → mind_at (configuration_of room) i ≡ (sweep_at room i).mind
 mind_is room i = get_or-map (λ (sweep : SweepState). sweep.mind) room.sweeps i (opening_sweep room.spec i)

@@ -39,8 +39,8 @@ step_within room i step limits one stepped is =
     }
 
 -- also of the room behind it, whose spec is given by its name
-pub told_within : (room after : RoomState) (spec : RoomSpec) (i : ℕ) (step : AtomicStep) → IsWithinLimits room.spec → IsOneInterleaving (configuration_of room) → after ≡ room_after_step room i → spec ≡ after.spec → step_reply room i ≡ Stepped → IsStepOf room i step
+pub reported_within : (room after : RoomState) (spec : RoomSpec) (i : ℕ) (step : AtomicStep) → IsWithinLimits room.spec → IsOneInterleaving (configuration_of room) → after ≡ room_after_step room i → spec ≡ after.spec → step_reply room i ≡ Stepped → IsStepOf room i step
     → (spec ≡ room.spec) × IsStepIn spec step
-told_within room after spec i step limits one to is stepped of =
+reported_within room after spec i step limits one to is stepped of =
     let same : spec ≡ room.spec = is ∙ ap (λ (r : RoomState). r.spec) to ∙ same_spec room (Step i) in
     (same, subst (λ (s : RoomSpec). IsStepIn s step) (sym same) (step_within room i step limits one stepped of))

@@ -1,7 +1,7 @@
 -- An atomic step as data: the line of its turn, its place, and what the simulation reads in the word there.
 use Rattle.std.specs.Prelude.{ℕ, ◌-◌, ◌==◌, List, map, Option, Some, None, codes, if◌then◌else◌}
 use Rattle.std.specs.List.{range_with_len}
-use Rattle.serde_json.specs.Data.{Data, array, member, no_members, null, number, object, string, unsigned}
+use Rattle.serde_json.specs.Data.{Data, array, member, no_members, null, object, string}
 use Rattle.serde_json.specs.View.{items_of}
 use Rattle.json_lines.specs.Values.{number_data, numbers_data}
 use Rattle.room_steps.specs.declared.step.AtomicStep.{AtomicStep}

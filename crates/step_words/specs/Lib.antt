@@ -4,4 +4,4 @@ pub mod Sights
 pub mod Data
 pub mod Json
 pub mod Lines
-pub mod Told
+pub mod Reported

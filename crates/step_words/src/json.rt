@@ -12,7 +12,7 @@ use crate::data::access_value;
 use crate::notes::notes_value;
 use crate::operation::write_operation;
 use crate::sight::write_sight;
-use crate::step::Consequence;
+use crate::step::{Consequence, NumberedStep};
 use io_text::Text;
 use json_lines::{text_value, write_line};
 use room_spec::Spec;
@@ -24,34 +24,26 @@ use std::alloc::{AllocError, Global};
 use view_table::Place;
 use ws_history::{Effect, Unreadable};
 
-/// Writes the step of this number as an object, on a line of its own.
+/// Writes a step as an object, on a line of its own.
 pub(crate) fn write_step_object(
     alloc: Global,
     output: &mut Text,
     spec: &Spec,
-    number: u64,
-    step: &AtomicStep,
-    consequence: Consequence,
+    numbered: &NumberedStep<'_>,
 ) -> Result<(), AllocError>
-    requires { IsStepIn spec.now step.now }
-    ensures { OnOk result (output.new ≡ output.old ++ json_line (step_data spec.now number step.now consequence)) }
+    requires { IsStepIn spec.now numbered.now.step.now }
+    ensures { OnOk result (output.new ≡ output.old ++ json_line (step_data spec.now numbered.now.number numbered.now.step.now numbered.now.consequence)) }
 {
-    let value = step_value(alloc, spec, number, step, consequence)?;
+    let value = step_value(alloc, spec, numbered)?;
     write_line(alloc, output, &value)
 }
 
-fn step_value(
-    alloc: Global,
-    spec: &Spec,
-    number: u64,
-    step: &AtomicStep,
-    consequence: Consequence,
-) -> Result<Value, AllocError>
-    requires { IsStepIn spec.now step.now }
-    ensures { IfOk result (λ value. view value ≡ step_data spec.now number step.now consequence) }
+fn step_value(alloc: Global, spec: &Spec, numbered: &NumberedStep<'_>) -> Result<Value, AllocError>
+    requires { IsStepIn spec.now numbered.now.step.now }
+    ensures { IfOk result (λ value. view value ≡ step_data spec.now numbered.now.number numbered.now.step.now numbered.now.consequence) }
 {
-    let parts = parts_of(alloc, spec, step, consequence)?;
-    let value = object_of(alloc, spec, number, step, parts)?;
+    let parts = parts_of(alloc, spec, numbered.step, numbered.consequence)?;
+    let value = object_of(alloc, spec, numbered.number, numbered.step, parts)?;
     Ok(value)
 }
 

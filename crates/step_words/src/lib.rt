@@ -12,5 +12,5 @@ mod step;
 mod texts;
 
 pub use sight::write_counts;
-pub use step::{Consequence, write_step};
+pub use step::{Consequence, NumberedStep, write_step};
 pub use texts::StepTexts;

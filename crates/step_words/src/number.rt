@@ -4,7 +4,7 @@ ghost use Rattle.simulator.specs.Ranges.{IsMind};
 ghost use Rattle.room_core.specs.Calls.{configuration_of, sweep_at};
 ghost use Rattle.room_core.specs.Counting.{total};
 ghost use Rattle.room_core.specs.Rooms.{IsOneInterleaving, mind_at};
-ghost use Rattle.step_words.specs.Told.{steps_in};
+ghost use Rattle.step_words.specs.Reported.{steps_in};
 
 use room_core::RoomCore;
 

@@ -25,6 +25,14 @@ pub struct Consequence {
     pub agreement: Option<Unreadable>,
 }
 
+/// A step, its number over the life of its room, and what follows from it.
+#[derive(Drop)]
+pub struct NumberedStep<'a> {
+    pub number: u64,
+    pub step: &'a AtomicStep,
+    pub consequence: Consequence,
+}
+
 /// The width of the column with the number of a step.
 const NUMBER_WIDTH: usize = 5;
 
@@ -34,7 +42,7 @@ const TURN_WIDTH: usize = 43;
 /// The width of the column with its operation.
 const OPERATION_WIDTH: usize = 36;
 
-/// Writes the line of an atomic step of a room, after four spaces: its number, which the caller counts; its turn, if this
+/// Writes the line of an atomic step of a room, after four spaces: its number; its turn, if this
 /// is the first step of the turn that is described (`same_turn` is false); its operation; and what its word shows. A second line says
 /// what takes effect at the step, if something does; if its simulator decides by it, the next one says so; if the step ends its turn, another one says
 /// how the turn ended, and after a quiet turn a last one says why the agreement can't be read.
@@ -45,21 +53,20 @@ const OPERATION_WIDTH: usize = 36;
 pub fn write_step(
     output: &mut Text,
     spec: &Spec,
-    number: u64,
-    step: &AtomicStep,
+    numbered: &NumberedStep<'_>,
     same_turn: bool,
-    consequence: Consequence,
 ) -> Result<(), AllocError>
-    requires { IsStepIn spec.now step.now }
-    ensures { OnOk result (output.new ≡ output.old ++ step_lines spec.now number step.now same_turn consequence) }
+    requires { IsStepIn spec.now numbered.now.step.now }
+    ensures { OnOk result (output.new ≡ output.old ++ step_lines spec.now numbered.now.number numbered.now.step.now same_turn numbered.now.consequence) }
 {
+    let step = numbered.step;
     output.put(b"    ")?;
-    write_step_number(output, number)?;
+    write_step_number(output, numbered.number)?;
     write_turn(output, step, same_turn)?;
     write_padded_operation(output, spec, step)?;
     write_sight(output, spec, step)?;
     output.put(b"\n")?;
-    write_notes(output, step, consequence)
+    write_notes(output, step, numbered.consequence)
 }
 
 /// Writes what takes effect at the step and what its simulator decides, if something does and it decides, how the turn ended, if it has ended, and why an

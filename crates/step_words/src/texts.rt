@@ -3,11 +3,11 @@ ghost use Rattle.std.specs.Prelude.{◌≡◌, ◌≢◌, false, true, IfOk, IfE
 ghost use Rattle.step_words.specs.Lines.{IsStepIn};
 ghost use Rattle.room_core.specs.Fields.{Fields};
 ghost use Rattle.room_core.specs.Reading.{AreFieldsOf};
-ghost use Rattle.step_words.specs.Told.{agreement_at, agreement_for, asked_of, is_turn, nothing_told, with_step};
+ghost use Rattle.step_words.specs.Reported.{agreement_at, agreement_for, asked_of, is_turn, nothing_reported, with_step};
 
 use crate::json::write_step_object;
 use crate::number::next_number;
-use crate::step::{Consequence, write_step};
+use crate::step::{Consequence, NumberedStep, write_step};
 use io_text::Text;
 use room_core::{Observer, RoomCore, StepReply};
 use room_spec::Spec;
@@ -28,28 +28,28 @@ pub struct StepTexts {
     lines: Text,
     /// The last step's simulator, and the number of its turn.
     last: Option<(usize, u64)>,
-    lacks: bool,
+    ran_out: bool,
 }
 
 impl Model for StepTexts {
-    ghost use Rattle.step_words.specs.Told.{Telling};
+    ghost use Rattle.step_words.specs.Reported.{Reporting};
 
-    ghost Value = { Telling };
+    ghost Value = { Reporting };
 
-    ghost view = { λ texts. record { json = texts.json; lines = texts.lines; last = texts.last; lacks = texts.lacks } };
+    ghost view = { λ texts. record { json = texts.json; lines = texts.lines; last = texts.last; ran_out = texts.ran_out } };
 }
 
 impl StepTexts {
     /// No lines. Steps will be written as text, or as JSON.
     pub fn new(alloc: Global, json: bool) -> StepTexts
-        ensures { result ≡ nothing_told json }
+        ensures { result ≡ nothing_reported json }
     {
         StepTexts {
             alloc,
             json,
             lines: Text::new(alloc),
             last: None,
-            lacks: false,
+            ran_out: false,
         }
     }
 
@@ -59,40 +59,34 @@ impl StepTexts {
     ///
     /// An allocation that failed for some of them.
     pub fn into_lines(self) -> Result<Text, AllocError>
-        ensures lines { IfOk result (λ lines. (self.lacks ≡ false) × (lines ≡ self.lines)) }
-        ensures refused { IfErr result (λ error. self.lacks ≡ true) }
+        ensures lines { IfOk result (λ lines. (self.ran_out ≡ false) × (lines ≡ self.lines)) }
+        ensures refused { IfErr result (λ error. self.ran_out ≡ true) }
     {
-        if self.lacks {
+        if self.ran_out {
             return Err(AllocError);
         }
         Ok(self.lines)
     }
 
-    fn note(&mut self, spec: &Spec, number: u64, step: &AtomicStep, consequence: Consequence)
-        requires { IsStepIn spec.now step.now }
-        ensures { self.new.lacks ≡ false → self.new ≡ with_step self.old spec.now number step.now consequence }
+    fn note(&mut self, spec: &Spec, numbered: &NumberedStep<'_>)
+        requires { IsStepIn spec.now numbered.now.step.now }
+        ensures { self.new.ran_out ≡ false → self.new ≡ with_step self.old spec.now numbered.now.number numbered.now.step.now numbered.now.consequence }
     {
-        if !self.lacks && self.write(spec, number, step, consequence).is_err() {
-            self.lacks = true;
+        if !self.ran_out && self.write(spec, numbered).is_err() {
+            self.ran_out = true;
         }
     }
 
-    /// Writes the step of this number.
-    fn write(
-        &mut self,
-        spec: &Spec,
-        number: u64,
-        step: &AtomicStep,
-        consequence: Consequence,
-    ) -> Result<(), AllocError>
-        requires { IsStepIn spec.now step.now }
-        ensures { OnOk result (self.new ≡ with_step self.old spec.now number step.now consequence) }
+    fn write(&mut self, spec: &Spec, numbered: &NumberedStep<'_>) -> Result<(), AllocError>
+        requires { IsStepIn spec.now numbered.now.step.now }
+        ensures { OnOk result (self.new ≡ with_step self.old spec.now numbered.now.number numbered.now.step.now numbered.now.consequence) }
     {
+        let step = numbered.step;
         if self.json {
-            write_step_object(self.alloc, &mut self.lines, spec, number, step, consequence)?;
+            write_step_object(self.alloc, &mut self.lines, spec, numbered)?;
         } else {
             let same_turn = self.is_turn(step.simulator, step.turn);
-            write_step(&mut self.lines, spec, number, step, same_turn, consequence)?;
+            write_step(&mut self.lines, spec, numbered, same_turn)?;
         }
         self.last = Some((step.simulator, step.turn));
         Ok(())
@@ -110,9 +104,9 @@ impl StepTexts {
 }
 
 impl Observer for StepTexts {
-    ghost use Rattle.step_words.specs.Told.{IsTold};
+    ghost use Rattle.step_words.specs.Reported.{IsReported};
 
-    ghost sees = { IsTold };
+    ghost sees = { IsReported };
 
     fn step(&mut self, room: &mut RoomCore, i: usize) -> StepReply {
         let _shape = room.spec().shape(); // for the proof: the room is one that its simulators lead to
@@ -125,7 +119,12 @@ impl Observer for StepTexts {
                 unreadable: asked_of(room, &step),
                 agreement: agreement_for(self.json, room, step.place),
             };
-            self.note(room.spec(), number, &step, consequence);
+            let numbered = NumberedStep {
+                number,
+                step: &step,
+                consequence,
+            };
+            self.note(room.spec(), &numbered);
         }
         reply
     }

@@ -26,11 +26,11 @@ use Rattle.simulator.specs.Turns.{TakenOf, acted, asked, begun, collected, count
 use Rattle.room_core.specs.Agreements.{IsInside}
 use Rattle.room_core.specs.Calls.{RoomState, configuration_of}
 use Rattle.room_core.specs.Rooms.{Configuration, HasLine, IsShaped, crashed_at, crashed_by, mind_at, opening, stepped}
-use Rattle.run_columns.specs.declared.mark.Deed.TheVariants as deeds
+use Rattle.run_columns.specs.declared.mark.StepKind.TheVariants as kinds
 use Rattle.run_columns.specs.declared.mark.Mark.{Mark}
 use Rattle.run_columns.specs.declared.mark.Mark.TheVariants.{Step, Crash}
 use Rattle.run_columns.specs.declared.mark.Step.{Step as StepMark}
-use Rattle.run_columns.specs.Seen.{deed_of, step_mark}
+use Rattle.run_columns.specs.Seen.{kind_of, step_mark}
 use Rattle.simulator_lanes.specs.Unsafe.{is_passage, passes}
 use Rattle.view_draw.specs.Seen.{IsMarkOf}
 
@@ -110,7 +110,7 @@ pub record HasEntered (i process : ℕ) (crashed : Bool) (marks : List Mark) : T
   pub entry : StepMark
   pub since : List Mark
   pub marks_are : marks ≡ before ++ Step entry ∷ since
-  pub enters : entry.deed ≡ deeds.Enter
+  pub enters : entry.kind ≡ kinds.Enter
   pub by : entry.simulator ≡ i
   pub on : entry.process ≡ process
   pub stays : list_any (passes i) since ≡ false
@@ -162,7 +162,7 @@ record IsStepBy (mind : MindState) (i : ℕ) (mark : Mark) : Type 0 where
   is : mark ≡ Step step
   by : step.simulator ≡ i
   operation : Move
-  deed : step.deed ≡ deed_of mind.line operation
+  kind : step.kind ≡ kind_of mind.line operation
   on : is_resting mind.line ≡ false → step.process ≡ mind.process
 
 works_in_turn : (mind : MindState) (process : ℕ) → works_on mind ≡ Some process → is_resting mind.line ≡ false → process ≡ mind.process
@@ -179,7 +179,7 @@ step_by room i mark low small is =
       is = is.mark_is;
       by = omega (arith, next.simulator, low);
       operation = is.step.operation;
-      deed = ap (λ (line : Line). deed_of line is.step.operation) (next.line ∙ ap (λ (mind : MindState). mind.line) (sym same));
+      kind = ap (λ (line : Line). kind_of line is.step.operation) (next.line ∙ ap (λ (mind : MindState). mind.line) (sym same));
       on = λ resting.
           let process = works_in_turn (mind_at (configuration_of room) i) is.step.process (subst (λ (mind : MindState). works_on mind ≡ Some is.step.process) (sym same) next.process) resting in
           omega (arith, process, small);
@@ -188,16 +188,16 @@ step_by room i mark low small is =
 -- a step of another simulator
 another : (k i : ℕ) (mark : Mark) (step : StepMark) → mark ≡ Step step → step.simulator ≡ i → k ≢ i → passes k mark ≡ false
 another k i mark step is by apart =
-    ap (passes k) is ∙ ap (λ (b : Bool). b && is_passage step.deed) (ne_eqb step.simulator k (λ same. apart (sym same ∙ by)))
+    ap (passes k) is ∙ ap (λ (b : Bool). b && is_passage step.kind) (ne_eqb step.simulator k (λ same. apart (sym same ∙ by)))
 
 both_false : (one other : Bool) → other ≡ false → (one && other) ≡ false
 both_false true other is = is
 both_false false other is = refl
 
 -- one that looks
-looks : (k : ℕ) (mark : Mark) (step : StepMark) (operation : Move) (line : Line) → mark ≡ Step step → step.deed ≡ deed_of line operation → line ≡ Look → passes k mark ≡ false
-looks k mark step operation line is deed look =
-    ap (passes k) is ∙ both_false (step.simulator == k) (is_passage step.deed) (ap is_passage (deed ∙ ap (λ (l : Line). deed_of l operation) look))
+looks : (k : ℕ) (mark : Mark) (step : StepMark) (operation : Move) (line : Line) → mark ≡ Step step → step.kind ≡ kind_of line operation → line ≡ Look → passes k mark ≡ false
+looks k mark step operation line is kind look =
+    ap (passes k) is ∙ both_false (step.simulator == k) (is_passage step.kind) (ap is_passage (kind ∙ ap (λ (l : Line). kind_of l operation) look))
 
 process_kept : (line : Line) (spec : RoomSpec) (mind : MindState) (answer : ℕ) → (line ≡ Enter) ⊎ (line ≡ Look) → (taken_at line spec mind answer).mind.process ≡ mind.process
 process_kept line spec mind answer (inl is) = subst (λ (l : Line). (taken_at l spec mind answer).mind.process ≡ mind.process) (sym is) refl
@@ -209,7 +209,7 @@ enters_now mind i process crashed marks mark drawn line same alive = record {
   entry = drawn.step;
   since = [];
   marks_are = ap (λ (m : Mark). marks ++ m ∷ []) drawn.is;
-  enters = drawn.deed ∙ ap (λ (l : Line). deed_of l drawn.operation) line;
+  enters = drawn.kind ∙ ap (λ (l : Line). kind_of l drawn.operation) line;
   by = drawn.by;
   on = drawn.on (ap is_resting line) ∙ sym same;
   stays = refl;
@@ -242,7 +242,7 @@ own_entered marks room i mark drawn alive before inside = by (leads_inside (mind
     by (inl enter) = enters_now (mind_at room i) i (mind_after room i).process (crashed_at room i) marks mark drawn enter (process_kept (mind_at room i).line room.spec (counted (mind_at room i)) (answer_to room i) (inl enter)) alive
     by (inr look) =
         subst (λ (process : ℕ). HasEntered i process (crashed_at room i) (marks ++ mark ∷ [])) (sym (process_kept (mind_at room i).line room.spec (counted (mind_at room i)) (answer_to room i) (inr look)))
-        (goes_on_inside i (mind_at room i).process (crashed_at room i) marks mark (looks i mark drawn.step drawn.operation (mind_at room i).line drawn.is drawn.deed look)
+        (goes_on_inside i (mind_at room i).process (crashed_at room i) marks mark (looks i mark drawn.step drawn.operation (mind_at room i).line drawn.is drawn.kind look)
         (before (subst IsInside (sym look) tt)))
 
 pub step_entered : (marks : List Mark) (room : RoomState) (i : ℕ) (mark : Mark) → IsShaped (configuration_of room) → HasLine (configuration_of room) i → IsMarkOf room i mark

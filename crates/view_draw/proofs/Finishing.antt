@@ -77,7 +77,7 @@ finished_here rooms before after core report opened there same truth is = record
   head = ap (λ (p : Panel). p.head) is;
   marks = ap (λ (p : Panel). p.marks) is;
   report =
-      let told : HasComeTo rooms before.head.spec.name None (Some report) = report_at rooms before.head.spec.name core report there same truth in
+      let reported : HasComeTo rooms before.head.spec.name None (Some report) = report_at rooms before.head.spec.name core report there same truth in
       subst (λ (r : Option ReportData). HasComeTo rooms before.head.spec.name r after.report) (sym (none_is before.report opened))
-      (subst (λ (r : Option ReportData). HasComeTo rooms before.head.spec.name None r) (sym (ap (λ (p : Panel). p.report) is)) told);
+      (subst (λ (r : Option ReportData). HasComeTo rooms before.head.spec.name None r) (sym (ap (λ (p : Panel). p.report) is)) reported);
 }

@@ -2,7 +2,7 @@
 use Rattle.std.specs.Prelude.{◌≡◌, ◌≤◌, ◌<◌, ℕ, false, List, ◌∷◌, ◌++◌, length, slice_index_or}
 use Rattle.std.specs.List.{Contains, list_any}
 use Rattle.ws_history.specs.declared.states.ProcessState.TheVariants.{Going, Held}
-use Rattle.run_columns.specs.declared.mark.Deed.TheVariants.{Enter}
+use Rattle.run_columns.specs.declared.mark.StepKind.TheVariants.{Enter}
 use Rattle.run_columns.specs.declared.mark.Mark.{Mark}
 use Rattle.run_columns.specs.declared.mark.Mark.TheVariants.{Step, Crash}
 use Rattle.run_columns.specs.declared.mark.Step.{Step as StepMark}
@@ -18,7 +18,7 @@ pub record IsSeenHolding (marks : List Mark) (process simulator : ℕ) : Type 0 
   pub entry : StepMark
   pub since : List Mark
   pub marks_are : marks ≡ before ++ Step entry ∷ since
-  pub enters : entry.deed ≡ Enter
+  pub enters : entry.kind ≡ Enter
   pub by : entry.simulator ≡ simulator
   pub on : entry.process ≡ process
   pub stays : list_any (passes simulator) since ≡ false

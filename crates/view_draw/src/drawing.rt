@@ -180,7 +180,7 @@ impl Follows for Drawing {
         Ok(())
     }
 
-    fn lack(&mut self, _line: u64) -> Result<(), AllocError> {
+    fn out_of_memory(&mut self, _line: u64) -> Result<(), AllocError> {
         Ok(())
     }
 }

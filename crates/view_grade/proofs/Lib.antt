@@ -1,3 +1,4 @@
 mod Claims
 mod Keeping
 mod Texts
+mod Watching

@@ -1,3 +1,4 @@
 pub mod Goals
 pub mod Grades
 pub mod Judging
+pub mod Keeping

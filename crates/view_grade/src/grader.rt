@@ -29,6 +29,15 @@ impl Grader {
         }
     }
 
+    /// Counts a command, and keeps the reply to it if it is a report, with what the simulators of its room have decided.
+    pub(crate) fn note(&mut self, asked: &Asked<'_>, reply: Reply, rooms: &Service)
+        ensures last { self.new.last ≡ reported_in (decisions_at (room_at rooms.now asked.now.name.now)) self.old.last reply }
+        ensures moves { self.new.moves ≡ if is_move_for asked.now.order then one_more self.old.moves else self.old.moves }
+    {
+        self.moves = moves_by(self.moves, asked.order);
+        self.keep(reply, rooms, asked.name);
+    }
+
     /// Keeps a reply to the room of this name if it is a report, with what the room's simulators have decided.
     fn keep(&mut self, reply: Reply, rooms: &Service, name: &[u8])
         ensures last { self.new.last ≡ reported_in (decisions_at (room_at rooms.now name.now)) self.old.last reply }
@@ -86,8 +95,7 @@ impl Follows for Grader {
         _watch: &mut Option<Unobserved>,
         rooms: &Service,
     ) -> Result<(), AllocError> {
-        self.moves = moves_by(self.moves, asked.order);
-        self.keep(reply, rooms, asked.name);
+        self.note(asked, reply, rooms);
         Ok(())
     }
 
@@ -95,7 +103,7 @@ impl Follows for Grader {
         Ok(())
     }
 
-    fn lack(&mut self, _line: u64) -> Result<(), AllocError> {
+    fn out_of_memory(&mut self, _line: u64) -> Result<(), AllocError> {
         Ok(())
     }
 }

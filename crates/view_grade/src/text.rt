@@ -210,7 +210,7 @@ pub(crate) fn write_end(output: &mut Text, reached: bool) -> Result<(), AllocErr
 }
 
 /// Writes words, and a space and a number after them.
-fn put_and(output: &mut Text, words: &[u8], number: u64) -> Result<(), AllocError>
+pub(crate) fn put_and(output: &mut Text, words: &[u8], number: u64) -> Result<(), AllocError>
     ensures { OnOk result (output.new ≡ output.old ++ and_number words.now number) }
 {
     output.put(words)?;

@@ -65,10 +65,10 @@ none_is (Some value) true is = absurd cc
 none_is (Some value) false is = refl
 
 -- what was written of a room that was searched to the end
-pub found_told : (search : Search) (spec : RoomSpec) (block : List ℕ) (crashes : ℕ) (all : AllOutcomes) (well : Bool) (before head after : List ℕ) → crashes ≡ crashes_for spec search.crashes
+pub found_reported : (search : Search) (spec : RoomSpec) (block : List ℕ) (crashes : ℕ) (all : AllOutcomes) (well : Bool) (before head after : List ℕ) → crashes ≡ crashes_for spec search.crashes
     → AreInOrder spec crashes search.brief all.listed.items → HasNodes spec search.nodes all.nodes → IsTaskOfRuns spec (option_map (λ events. events.items) all.breaking) → well ≡ is_none all.breaking
     → head ≡ before ++ head_in search.form spec.name crashes → after ≡ head ++ found_shown search spec block crashes all → (text : List ℕ) × IsListText search spec block well text × (after ≡ before ++ text)
-found_told search spec block crashes all well before head after stopped outcomes nodes task well_is head_is after_is =
+found_reported search spec block crashes all well before head after stopped outcomes nodes task well_is head_is after_is =
     let rest = found_shown search spec block crashes all in
     let answer : IsListText search spec block well (head_in search.form spec.name (crashes_for spec search.crashes) ++ rest) = record {
       rest = rest;
@@ -90,9 +90,9 @@ found_told search spec block crashes all well before head after stopped outcomes
     )
 
 -- and of one with more nodes than the limit
-pub unfinished_told : (search : Search) (spec : RoomSpec) (block : List ℕ) (crashes : ℕ) (before head after : List ℕ) → crashes ≡ crashes_for spec search.crashes → AreTooMany spec search.nodes
+pub unfinished_reported : (search : Search) (spec : RoomSpec) (block : List ℕ) (crashes : ℕ) (before head after : List ℕ) → crashes ≡ crashes_for spec search.crashes → AreTooMany spec search.nodes
     → head ≡ before ++ head_in search.form spec.name crashes → after ≡ head ++ unfinished_in search.form spec crashes search.nodes → (text : List ℕ) × IsListText search spec block false text × (after ≡ before ++ text)
-unfinished_told search spec block crashes before head after stopped many head_is after_is =
+unfinished_reported search spec block crashes before head after stopped many head_is after_is =
     let rest = unfinished_in search.form spec crashes search.nodes in
     let answer : IsListText search spec block false (head_in search.form spec.name (crashes_for spec search.crashes) ++ rest) = record {
       rest = rest;
@@ -106,10 +106,10 @@ unfinished_told search spec block crashes before head after stopped many head_is
 
 -- ---- one outcome alone
 
-pub chosen_told : (search : Search) (spec : RoomSpec) (block : List ℕ) (number crashes : ℕ) (all : List Listed) (well : Bool) (before after : List ℕ) → crashes ≡ crashes_for spec search.crashes
+pub chosen_reported : (search : Search) (spec : RoomSpec) (block : List ℕ) (number crashes : ℕ) (all : List Listed) (well : Bool) (before after : List ℕ) → crashes ≡ crashes_for spec search.crashes
     → AreInOrder spec crashes (is_brief_alone search.form search.brief) all → well ≡ is_some (chosen number all) → after ≡ before ++ alone_in search.form spec.name block number all
     → (text : List ℕ) × IsAloneText number search spec block well text × (after ≡ before ++ text)
-chosen_told search spec block number crashes all well before after stopped outcomes well_is after_is = (
+chosen_reported search spec block number crashes all well before after stopped outcomes well_is after_is = (
   alone_in search.form spec.name block number all,
   inl
       (record {
@@ -121,9 +121,9 @@ chosen_told search spec block number crashes all well before after stopped outco
   after_is,
 )
 
-pub unlisted_told : (search : Search) (spec : RoomSpec) (block : List ℕ) (number crashes : ℕ) (before after : List ℕ) → crashes ≡ crashes_for spec search.crashes → AreTooMany spec search.nodes
+pub unlisted_reported : (search : Search) (spec : RoomSpec) (block : List ℕ) (number crashes : ℕ) (before after : List ℕ) → crashes ≡ crashes_for spec search.crashes → AreTooMany spec search.nodes
     → after ≡ before ++ (head_in search.form spec.name crashes ++ unfinished_in search.form spec crashes search.nodes) → (text : List ℕ) × IsAloneText number search spec block false text × (after ≡ before ++ text)
-unlisted_told search spec block number crashes before after stopped many after_is =
+unlisted_reported search spec block number crashes before after stopped many after_is =
     let rest = unfinished_in search.form spec (crashes_for spec search.crashes) search.nodes in (
       head_in search.form spec.name (crashes_for spec search.crashes) ++ rest,
       inr (record { rest = rest; rest_is = record { many = many; text_is = refl; well_is = refl }; text_is = refl }),
@@ -132,21 +132,21 @@ unlisted_told search spec block number crashes before after stopped many after_i
 
 -- ---- the task alone
 
-pub taskless_told : (search : Search) (spec : RoomSpec) (block before after : List ℕ) → None ≡ spec.task → after ≡ before ++ taskless_in search.form spec search.nodes → (text : List ℕ) × IsTaskText search spec block true text × (after ≡ before ++ text)
-taskless_told search spec block before after none is = (taskless_in search.form spec search.nodes, inl (record { none = sym none; text_is = refl; well_is = refl }), is)
+pub taskless_reported : (search : Search) (spec : RoomSpec) (block before after : List ℕ) → None ≡ spec.task → after ≡ before ++ taskless_in search.form spec search.nodes → (text : List ℕ) × IsTaskText search spec block true text × (after ≡ before ++ text)
+taskless_reported search spec block before after none is = (taskless_in search.form spec search.nodes, inl (record { none = sym none; text_is = refl; well_is = refl }), is)
 
-pub judged_told : (search : Search) (spec : RoomSpec) (block : List ℕ) (judgement : Judgement) (well : Bool) (before after : List ℕ) → IsJudged spec search.nodes judgement → well ≡ is_kept judgement → after ≡ before ++ judgement_in search.form spec block search.nodes judgement
+pub judged_reported : (search : Search) (spec : RoomSpec) (block : List ℕ) (judgement : Judgement) (well : Bool) (before after : List ℕ) → IsJudged spec search.nodes judgement → well ≡ is_kept judgement → after ≡ before ++ judgement_in search.form spec block search.nodes judgement
     → (text : List ℕ) × IsTaskText search spec block well text × (after ≡ before ++ text)
-judged_told search spec block judgement well before after judged well_is is =
+judged_reported search spec block judgement well before after judged well_is is =
     (judgement_in search.form spec block search.nodes judgement, inr (inl (record { judgement = judgement; judged = judged; text_is = refl; well_is = well_is })), is)
 
-pub unjudged_told : (search : Search) (spec : RoomSpec) (block before after : List ℕ) → AreTooManyKept spec search.nodes → after ≡ before ++ unjudged_in search.form spec search.nodes → (text : List ℕ) × IsTaskText search spec block false text × (after ≡ before ++ text)
-unjudged_told search spec block before after kept is = (unjudged_in search.form spec search.nodes, inr (inr (record { kept = kept; text_is = refl; well_is = refl })), is)
+pub unjudged_reported : (search : Search) (spec : RoomSpec) (block before after : List ℕ) → AreTooManyKept spec search.nodes → after ≡ before ++ unjudged_in search.form spec search.nodes → (text : List ℕ) × IsTaskText search spec block false text × (after ≡ before ++ text)
+unjudged_reported search spec block before after kept is = (unjudged_in search.form spec search.nodes, inr (inr (record { kept = kept; text_is = refl; well_is = refl })), is)
 
 -- ---- what is asked for
 
-pub asked_told : {E : Type 0} (search : Search) (spec : RoomSpec) (block : List ℕ) (asked : Asked) (before after : List ℕ) (result : Result Bool E) → search.asked ≡ asked → block_in block ≡ Ok (spec, length block)
+pub asked_reported : {E : Type 0} (search : Search) (spec : RoomSpec) (block : List ℕ) (asked : Asked) (before after : List ℕ) (result : Result Bool E) → search.asked ≡ asked → block_in block ≡ Ok (spec, length block)
     → IfOk result (λ well. (text : List ℕ) × IsTextFor asked search spec block well text × (after ≡ before ++ text)) → IfOk result (λ well. (text : List ℕ) × IsRoomAnswer search spec well text × (after ≡ before ++ text))
-asked_told search spec block asked before after (Ok well) is says told =
-    (told.0, record { block = block; says = says; text_is = subst (λ (what : Asked). IsTextFor what search spec block well told.0) (sym is) told.1 }, told.2)
-asked_told search spec block asked before after (Err error) is says told = tt
+asked_reported search spec block asked before after (Ok well) is says reported =
+    (reported.0, record { block = block; says = says; text_is = subst (λ (what : Asked). IsTextFor what search spec block well reported.0) (sym is) reported.1 }, reported.2)
+asked_reported search spec block asked before after (Err error) is says reported = tt

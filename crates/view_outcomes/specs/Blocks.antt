@@ -9,11 +9,11 @@ use Rattle.view_outcomes.specs.Asked.{is_alone}
 use Rattle.view_outcomes.specs.Forms.{is_text}
 use Rattle.view_outcomes.specs.Rooms.{AddsOutcomes}
 
--- text for people is written, and not transcripts or JSON alone
+-- text for people is written, and not only transcripts or JSON
 abbrev pub is_for_people : Search → Bool
 is_for_people search = is_text search.form && not (is_alone search.asked)
 
--- the lines of the refused blocks, which are else on standard error alone
+-- the lines of the refused blocks, which are else only on standard error
 abbrev pub refused_in : Bool → List ℕ → List ℕ
 refused_in people refused = if people then refused else []
 

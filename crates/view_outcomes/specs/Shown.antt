@@ -59,14 +59,14 @@ abbrev pub unfinished_in : Form → RoomSpec → ℕ → ℕ → List ℕ
 unfinished_in Text spec crashes limit = unfinished_line limit advice
 unfinished_in Json spec crashes limit = json_line (unfinished_data spec crashes limit)
 
--- ---- one outcome alone
+-- ---- a single outcome
 
 -- the transcript of the outcome of this number, if there is one; in JSON, that outcome
 abbrev pub alone_in : Form → List ℕ → List ℕ → ℕ → List Listed → List ℕ
 alone_in Text name block number all = alone_text name block number (length all) (chosen number all)
 alone_in Json name block number all = json_line (alone_data name number (length all) (chosen number all))
 
--- ---- the task alone
+-- ---- only the task
 
 abbrev pub taskless_in : Form → RoomSpec → ℕ → List ℕ
 taskless_in Text spec limit = taskless_line spec.name

@@ -43,7 +43,7 @@ outcome_text name block one = codes "\n" ++ (end_lines name one.ends.items ++ tr
 abbrev pub more_line : List ℕ → ℕ → List ℕ
 more_line name more = (codes "\n" ++ name) ++ (codes " has" ++ ((32 ∷ decimal more) ++ codes " more outcomes\n"))
 
--- ---- one outcome alone
+-- ---- a single outcome
 
 abbrev pub count_words : List ℕ → ℕ → List ℕ
 count_words name count = (name ++ codes " has") ++ ((32 ∷ decimal count) ++ codes " outcomes, and none has the number")
@@ -108,7 +108,7 @@ common_text spec block all =
     ++ ((spent_lines spec.name (processes spec) all.listed.items ++ none_spent_if spec.name all.listed.items)
     ++ (task_text spec.name block spec.task (option_map (λ events. events.items) all.breaking) ++ complete_line all))
 
--- ---- the task alone
+-- ---- only the task
 
 abbrev pub taskless_line : List ℕ → List ℕ
 taskless_line name = name ++ codes " has no task\n"

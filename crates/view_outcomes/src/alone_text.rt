@@ -1,4 +1,4 @@
-//! One outcome alone, as text.
+//! A single outcome, as text.
 ghost use Rattle.std.specs.Prelude.{◌≡◌, ◌++◌, OnOk, length};
 ghost use Rattle.view_outcomes.specs.Listing.{chosen};
 ghost use Rattle.view_outcomes.specs.Texts.{alone_text, count_words, none_line};

@@ -217,7 +217,7 @@ fn unfinished_value(room: &SearchedRoom<'_>, crashes: usize) -> Result<Value, Al
     })
 }
 
-// ---- the task alone
+// ---- only the task
 
 /// How many values a task allows, a run that breaks it, and whether each run keeps it; or `null` for no task.
 fn task_value(

@@ -82,7 +82,7 @@ pub struct Search<'a> {
 }
 
 impl Search<'_> {
-    /// Whether text for people is written, and not transcripts or JSON alone.
+    /// Whether text for people is written, and not only transcripts or JSON.
     pub(crate) fn is_for_people(&self) -> bool
         ensures { result ≡ is_for_people self.now }
     {

@@ -123,7 +123,7 @@ pub fn show_unfinished(
     }
 }
 
-// ---- one outcome alone
+// ---- a single outcome
 
 /// Writes a transcript of the outcome of this number in a list, or as JSON that outcome; or, if there is none, how many outcomes there are.
 pub fn show_alone(
@@ -153,7 +153,7 @@ pub fn show_unlisted(
     show_unfinished(room, output, crashes)
 }
 
-// ---- the task alone
+// ---- only the task
 
 /// Writes that the room has no task.
 pub fn show_taskless(room: &SearchedRoom<'_>, output: &mut Text) -> Result<(), AllocError>

@@ -20,8 +20,8 @@ use Rattle.view_sample.proofs.Leading.{leads}
 -- ---- the schedule of each outcome's number leads to it
 
 -- these outcomes of a sample, or their groups
-pub told_came : (plan : Plan) (spec : RoomSpec) (outcomes told : List Counted) → IsSample spec plan outcomes → told ≡ grouped_if plan.group outcomes → All (CameByFirst spec plan) told
-told_came plan spec outcomes told sample is =
+pub reported_came : (plan : Plan) (spec : RoomSpec) (outcomes reported : List Counted) → IsSample spec plan outcomes → reported ≡ grouped_if plan.group outcomes → All (CameByFirst spec plan) reported
+reported_came plan spec outcomes reported sample is =
     subst (λ (all : List Counted). All (CameByFirst spec plan) all) (sym is) (groups_came spec plan plan.group outcomes (sample_came spec plan plan.schedules outcomes sample))
 
 -- in any order

@@ -15,7 +15,7 @@ stretch_is (Crash simulator) = refl
 schedule_is : (schedule : List Stretch) → has_float (schedule_data schedule) ≡ false
 schedule_is schedule = items_are stretch_data stretch_is schedule
 
-unless_is : (brief : Bool) (schedule : List Stretch) → has_float (schedule_unless brief schedule) ≡ false
+pub unless_is : (brief : Bool) (schedule : List Stretch) → has_float (schedule_unless brief schedule) ≡ false
 unless_is true schedule = refl
 unless_is false schedule = schedule_is schedule
 

@@ -24,7 +24,7 @@ use Rattle.service_core.specs.Runs.{granted, is_want, replies_of, without_wants}
 use Rattle.room_files.specs.declared.outcome.Outcome.{Outcome}
 use Rattle.room_files.specs.Faults.{FaultAt}
 use Rattle.room_files.specs.Verdicts.{outcome_if}
-use Rattle.script_play.specs.Play.{AreDone, Done, Faulty, Replied, Unread, commands_of, done_text, ending_if, is_lacking, is_refused, replies_in}
+use Rattle.script_play.specs.Play.{AreDone, Done, Faulty, Replied, Unread, commands_of, done_text, ending_if, ran_out_of_memory, is_refused, replies_in}
 use Rattle.script_play.specs.Script.{Ask, Entry, Open, script_says}
 use Rattle.view_sample.specs.Leads.{LeadsTo, reply_to_stretch}
 use Rattle.room_sample.specs.Schedules.{IsOutcome, IsSchedule, MayCome, longest, room_after_stretch}
@@ -62,12 +62,12 @@ one_more command reply commands all granted are = record {
   no_want = ap₂ (λ (a b : Bool). a || b) granted are.no_want;
 }
 
-replied : (commands : List Command) (all : List Done) → AreDone (map Ask commands) all → list_any is_lacking all ≡ false → AreReplied commands all
+replied : (commands : List Command) (all : List Done) → AreDone (map Ask commands) all → list_any ran_out_of_memory all ≡ false → AreReplied commands all
 replied [] [] are none = record { commands_are = refl; all_are = refl; count = refl; no_want = refl }
 replied [] (done ∷ all) are none = absurd are
 replied (command ∷ commands) [] are none = absurd are
 replied (command ∷ commands) (Replied asked reply ∷ all) are none =
-    let parts = one_false (is_want reply) (list_any is_lacking all) none in
+    let parts = one_false (is_want reply) (list_any ran_out_of_memory all) none in
     subst (λ (c : Command). AreReplied (c ∷ commands) (Replied asked reply ∷ all)) are.0 (one_more asked reply commands all parts.0 (replied commands all are.1 parts.1))
 replied (command ∷ commands) (Faulty line fault ∷ all) are none = absurd are.0
 replied (command ∷ commands) (Unread line ∷ all) are none = absurd are.0
@@ -81,10 +81,10 @@ begun_by spec other block len n is says = sym (ap (λ (one : RoomSpec × ℕ). o
 no_fault : (spec : RoomSpec) (block : List ℕ) (n : ℕ) (fault : SpecFault) → block_in block ≡ Ok (spec, n) → block_in block ≡ Err fault → ⊥
 no_fault spec block n fault is says = cc
 
-opened : (spec : RoomSpec) (number n : ℕ) (block : List ℕ) (asked : List Command) (all : List Done) → block_in block ≡ Ok (spec, n) → AreDone (Open number block ∷ map Ask asked) all → list_any is_lacking all ≡ false → AreReplied (commands.Begin spec ∷ asked) all
+opened : (spec : RoomSpec) (number n : ℕ) (block : List ℕ) (asked : List Command) (all : List Done) → block_in block ≡ Ok (spec, n) → AreDone (Open number block ∷ map Ask asked) all → list_any ran_out_of_memory all ≡ false → AreReplied (commands.Begin spec ∷ asked) all
 opened spec number n block asked [] is are none = absurd are
 opened spec number n block asked (Replied command reply ∷ all) is are none =
-    let parts = one_false (is_want reply) (list_any is_lacking all) none in
+    let parts = one_false (is_want reply) (list_any ran_out_of_memory all) none in
     let begun : command ≡ commands.Begin spec = are.0.3 ∙ ap commands.Begin (begun_by spec are.0.0 block are.0.1 n is are.0.2) in
     subst (λ (c : Command). AreReplied (c ∷ asked) (Replied command reply ∷ all)) begun (one_more command reply asked all parts.0 (replied asked all are.1 parts.1))
 opened spec number n block asked (Faulty line fault ∷ all) is are none = absurd (no_fault spec block n fault is are.0.1)
@@ -214,7 +214,7 @@ leads spec crashes block schedule states limits says is =
       played = λ outcome output play.
           let text = play.2 in
           let all = text.all in
-          let end = fine (list_any is_lacking all) (list_any is_refused all) outcome text.ending_is in
+          let end = fine (list_any ran_out_of_memory all) (list_any is_refused all) outcome text.ending_is in
           let entries : play.0 ≡ Open 2 (whole_block block) ∷ map Ask asked = same_entries _ _ (sym play.1 ∙ read) in
           let did = opened spec 2 (length (whole_block block)) (whole_block block) asked all whole.says (subst (λ (e : List Entry). AreDone e all) entries text.each_entry) end.0 in
           let ours = own name (commands.Begin spec ∷ asked) (replies_in all) did.count (refl, named_for name schedule) did.no_want in

@@ -1,10 +1,12 @@
 mod Alike
 mod Answering
 mod Breaking
+pub mod CallerLemmas
 mod Coming
 mod Following
 mod JsonNumbers
 mod Keeping
+mod KeptTexts
 mod Leading
 mod RoomTexts
 mod ScriptLines

@@ -8,7 +8,7 @@ use Rattle.std.proofs.lemmas.List.Folds.{concat-append}
 use Rattle.room_spec.specs.Blocks.{block_in}
 use Rattle.room_spec.specs.Rooms.{IsWithinLimits, RoomSpec}
 use Rattle.room_files.specs.BlockLists.{IsBlockAt}
-use Rattle.view_sample.specs.Rooms.{AddsCut, AddsFirst, AddsSamples, AreSampleTexts, IsChosen, IsListed, IsSampleText, IsTold, ListsFewer, ShowsNoMore, alone_shown, cut_plan, end_text, shown_text, shows_alone, shows_breaking}
+use Rattle.view_sample.specs.Rooms.{AddsCut, AddsFirst, AddsSamples, AreSampleTexts, IsChosen, IsListed, IsSampleText, IsReported, ListsFewer, ShowsNoMore, alone_shown, cut_plan, end_text, shown_text, shows_alone, shows_breaking}
 use Rattle.view_sample.specs.Texts.{shown_count}
 use Rattle.room_sample.specs.Groups.{grouped_if}
 use Rattle.room_sample.specs.Shown.{AreShown, IsShownIf, Shown, shown_of}
@@ -20,11 +20,11 @@ use Rattle.room_sample.specs.declared.sampling.Plan.{Plan}
 use Rattle.view_sample.proofs.Coming.{all_shown, fewer_shown, lent_shown, script_leads, scripts_lead}
 use Rattle.view_sample.proofs.Taking.{took}
 
-and_right : (b : Bool) → b ≡ (b && true)
+pub and_right : (b : Bool) → b ≡ (b && true)
 and_right true = refl
 and_right false = refl
 
-and_assoc : (a b c : Bool) → ((a && b) && c) ≡ (a && (b && c))
+pub and_assoc : (a b c : Bool) → ((a && b) && c) ≡ (a && (b && c))
 and_assoc true b c = refl
 and_assoc false b c = refl
 
@@ -66,7 +66,7 @@ pub of_said : (P : RoomSpec → Type 0) (block : List ℕ) (spec said : RoomSpec
 of_said P block spec said own says is =
     subst P (ap (λ (one : RoomSpec × ℕ). one.0) (same_read block (spec, length block) (said, length block) own says)) is
 
--- ---- what is told of a room
+-- ---- what is reported of a room
 
 -- these outcomes, of which some are shown
 module _ (plan : Plan) (top : Option ℕ) (spec : RoomSpec) (block : List ℕ) (limits : IsWithinLimits spec) (own : block_in block ≡ Ok (spec, length block)) where
@@ -122,21 +122,21 @@ pub ended : (json : Bool) (plan : Plan) (spec : RoomSpec) (block : List ℕ) (ou
 ended json plan spec block outcomes lent one start text start_is lent_is text_is =
     text_is ∙ ap₂ (λ (s : List ℕ) (o : Option Shown). s ++ end_text json plan spec block outcomes o) start_is (lent_shown lent one lent_is)
 
-pub alone_told : (json : Bool) (plan : Plan) (name block : List ℕ) (count total number : ℕ) (lent : Option (Bor Example)) (one : Option Example) (start text : List ℕ) → start ≡ [] → count ≡ total → option_copied lent ≡ one
+pub alone_reported : (json : Bool) (plan : Plan) (name block : List ℕ) (count total number : ℕ) (lent : Option (Bor Example)) (one : Option Example) (start text : List ℕ) → start ≡ [] → count ≡ total → option_copied lent ≡ one
     → text ≡ start ++ alone_shown json plan name block count number (option_map (λ (r : Bor Example). shown_of r.now) lent) → text ≡ alone_shown json plan name block total number (option_map shown_of one)
-alone_told json plan name block count total number lent one start text start_is count_is lent_is text_is =
+alone_reported json plan name block count total number lent one start text start_is count_is lent_is text_is =
     text_is ∙ ap₂ (λ (s : List ℕ) (o : Option Shown). s ++ alone_shown json plan name block count number o) start_is (lent_shown lent one lent_is) ∙ ap (λ (n : ℕ). alone_shown json plan name block n number (option_map shown_of one)) count_is
 
--- the outcomes that are told are those of a sample
-pub sample_told : (alone : Option ℕ) (plan : Plan) (spec : RoomSpec) (block : List ℕ) (outcomes told : List Counted) (well : Bool) (text : List ℕ) → block_in block ≡ Ok (spec, length block) → IsSample spec plan outcomes → AreAmongAll spec outcomes
-    → told ≡ grouped_if plan.group outcomes → plan.outcome ≡ alone → IsTold alone plan spec block told well text → IsSampleText plan spec well text
-sample_told alone plan spec block outcomes told well text own sample among told_is alone_is is = record {
+-- the outcomes that are reported are those of a sample
+pub sample_reported : (alone : Option ℕ) (plan : Plan) (spec : RoomSpec) (block : List ℕ) (outcomes reported : List Counted) (well : Bool) (text : List ℕ) → block_in block ≡ Ok (spec, length block) → IsSample spec plan outcomes → AreAmongAll spec outcomes
+    → reported ≡ grouped_if plan.group outcomes → plan.outcome ≡ alone → IsReported alone plan spec block reported well text → IsSampleText plan spec well text
+sample_reported alone plan spec block outcomes reported well text own sample among reported_is alone_is is = record {
   block = block;
   says = own;
   outcomes = outcomes;
   sample = sample;
   among = among;
-  told = subst (λ (o : Option ℕ). IsTold o plan spec block (grouped_if plan.group outcomes) well text) (sym alone_is) (subst (λ (all : List Counted). IsTold alone plan spec block all well text) told_is is);
+  reported = subst (λ (o : Option ℕ). IsReported o plan spec block (grouped_if plan.group outcomes) well text) (sym alone_is) (subst (λ (all : List Counted). IsReported alone plan spec block all well text) reported_is is);
 }
 
 -- ---- if an allocation fails
@@ -229,10 +229,10 @@ whole_listed plan spec block outcomes ordered examples broken well end before af
     )
 
 -- and so the sample was written in part
-pub fewer_told : (plan : Plan) (spec : RoomSpec) (block : List ℕ) (outcomes told : List Counted) (before after : List ℕ) → block_in block ≡ Ok (spec, length block) → IsSample spec plan outcomes → AreAmongAll spec outcomes
-    → told ≡ grouped_if plan.group outcomes → plan.outcome ≡ None → ListsFewer plan spec block told before after → AddsCut plan spec before after
-fewer_told plan spec block outcomes told before after own sample among told_is alone_is (inl same) = inl same
-fewer_told plan spec block outcomes told before after own sample among told_is alone_is (inr (top, well, text, shows, is, after_is)) =
+pub fewer_reported : (plan : Plan) (spec : RoomSpec) (block : List ℕ) (outcomes reported : List Counted) (before after : List ℕ) → block_in block ≡ Ok (spec, length block) → IsSample spec plan outcomes → AreAmongAll spec outcomes
+    → reported ≡ grouped_if plan.group outcomes → plan.outcome ≡ None → ListsFewer plan spec block reported before after → AddsCut plan spec before after
+fewer_reported plan spec block outcomes reported before after own sample among reported_is alone_is (inl same) = inl same
+fewer_reported plan spec block outcomes reported before after own sample among reported_is alone_is (inr (top, well, text, shows, is, after_is)) =
     let cut = cut_plan plan plan.schedules top in
     inr (
       text,
@@ -242,7 +242,7 @@ fewer_told plan spec block outcomes told before after own sample among told_is a
         fewer = omega arith;
         shows = shows;
         well = well;
-        is_sample = sample_told None cut spec block outcomes told well text own (cut_sample spec plan plan.schedules top outcomes sample) among told_is alone_is is;
+        is_sample = sample_reported None cut spec block outcomes reported well text own (cut_sample spec plan plan.schedules top outcomes sample) among reported_is alone_is is;
       },
       after_is,
     )
@@ -268,4 +268,4 @@ all_run plan spec schedules well before after all is =
 pub cut_here : (plan : Plan) (specs : List RoomSpec) (i : ℕ) (block : List ℕ) (well : Bool) (before so_far after : List ℕ) → IsBlockAt specs i block → AddsSamples plan (take i specs) well before so_far
     → ((spec : RoomSpec) → block_in block ≡ Ok (spec, length block) → AddsCut plan spec so_far after) → AddsFirst plan specs before after
 cut_here plan specs i block well before so_far after at adds rest =
-    record { count = i; next = at.room; there = at.there; well = well; told = so_far; first = adds; rest = rest at.room at.says }
+    record { count = i; next = at.room; there = at.there; well = well; reported = so_far; first = adds; rest = rest at.room at.says }

@@ -18,7 +18,7 @@ use Rattle.service_core.specs.declared.command.Command.{Command}
 use Rattle.room_files.specs.Blocks.{block_extent}
 use Rattle.room_files.specs.Faults.{FaultAt}
 use Rattle.room_files.specs.Lines.{text_lines}
-use Rattle.script_play.specs.Script.{Ask, Entry, IsCommandLine, Open, and_then, block_behind, command_fields, command_in, entry_at, is_open, script_from, script_says, text_behind}
+use Rattle.script_play.specs.Script.{Ask, Entry, IsCommandLine, Open, and_then, block_after, command_fields, command_in, entry_at, is_open, script_from, script_says, text_after}
 use Rattle.script_play.proofs.CallerLemmas.{read_again}
 use Rattle.view_sample.proofs.WholeBlocks.{IsWhole}
 
@@ -80,13 +80,13 @@ pub record IsWritten (command : Command) : Type 0 where
   pub line : is_line (line_of command) ≡ true
   pub closed : is_open (line_of command) ≡ false
 
-entry_of : (number : ℕ) (line rest : List ℕ) (command : Command) → is_open line ≡ false → command_in line ≡ Some command → entry_at number line (block_behind line rest) ≡ Ok (Ask command)
+entry_of : (number : ℕ) (line rest : List ℕ) (command : Command) → is_open line ≡ false → command_in line ≡ Some command → entry_at number line (block_after line rest) ≡ Ok (Ask command)
 entry_of number line rest command closed is = rw (closed, is) refl
 
-lines_none : (line rest : List ℕ) → is_open line ≡ false → length (text_lines (block_behind line rest)) ≡ 0
+lines_none : (line rest : List ℕ) → is_open line ≡ false → length (text_lines (block_after line rest)) ≡ 0
 lines_none line rest closed = rw closed refl
 
-rest_of : (line rest : List ℕ) → is_open line ≡ false → text_behind line rest ≡ rest
+rest_of : (line rest : List ℕ) → is_open line ≡ false → text_after line rest ≡ rest
 rest_of line rest closed = rw closed refl
 
 -- what is read at a line that asks for a command
@@ -94,10 +94,10 @@ next_read : (most number : ℕ) (text line rest : List ℕ) (command : Command) 
 unfolding script_from
 next_read most number [] line rest command some first later closed is = absurd (omega (arith, some))
 next_read most number (byte ∷ bytes) line rest command some first later closed is =
-    let read : List ℕ → List ℕ → Result (List Entry) FaultAt = λ l r. and_then (entry_at number l (block_behind l r)) (script_from most (number + 1 + length (text_lines (block_behind l r))) (text_behind l r)) in
-    let count : number + 1 + length (text_lines (block_behind line rest)) ≡ number + 1 = let none = lines_none line rest closed in omega (arith, none) in
+    let read : List ℕ → List ℕ → Result (List Entry) FaultAt = λ l r. and_then (entry_at number l (block_after l r)) (script_from most (number + 1 + length (text_lines (block_after l r))) (text_after l r)) in
+    let count : number + 1 + length (text_lines (block_after line rest)) ≡ number + 1 = let none = lines_none line rest closed in omega (arith, none) in
     ap₂ read first later
-    ∙ ap (λ (entry : Result Entry FaultAt). and_then entry (script_from most (number + 1 + length (text_lines (block_behind line rest))) (text_behind line rest))) (entry_of number line rest command closed is)
+    ∙ ap (λ (entry : Result Entry FaultAt). and_then entry (script_from most (number + 1 + length (text_lines (block_after line rest))) (text_after line rest))) (entry_of number line rest command closed is)
     ∙ ap₂ (λ (n : ℕ) (t : List ℕ). and_then (Ok (Ask command)) (script_from most n t)) count (rest_of line rest closed)
 
 -- all commands are read
@@ -127,7 +127,7 @@ opened_read spec whole commands is written =
     let rest = lines_for commands in
     let text = whole ++ rest in
     let most = length (codes "pen\n" ++ text) in
-    let read : List ℕ → List ℕ → Result (List Entry) FaultAt = λ l r. and_then (entry_at 1 l (block_behind l r)) (script_from most (1 + 1 + length (text_lines (block_behind l r))) (text_behind l r)) in
+    let read : List ℕ → List ℕ → Result (List Entry) FaultAt = λ l r. and_then (entry_at 1 l (block_after l r)) (script_from most (1 + 1 + length (text_lines (block_after l r))) (text_after l r)) in
     let front : take (block_extent text) text ≡ whole = ap (λ (n : ℕ). take n text) (is.extent rest) ∙ take_at whole rest (length whole) refl in
     let behind : drop (block_extent text) text ≡ rest = ap (λ (n : ℕ). drop n text) (is.extent rest) ∙ drop-append_seam whole rest in
     ap₂ read (before_cut is_line_end (codes "open") 10 text refl refl) (later_of (codes "open") text refl)

@@ -56,7 +56,7 @@ room_data spec plan outcomes =
 abbrev pub room_line : RoomSpec → Plan → List Counted → List ℕ
 room_line spec plan outcomes = json_line (room_data spec plan outcomes)
 
--- ---- one outcome alone
+-- ---- a single outcome
 
 -- how many outcomes there are, none of which has this number
 abbrev pub none_data : List ℕ → ℕ → ℕ → Data

@@ -1,5 +1,6 @@
 pub mod Counts
 pub mod Json
+pub mod Keeping
 pub mod Leads
 pub mod Rooms
 pub mod Sample

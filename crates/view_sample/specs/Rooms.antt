@@ -32,7 +32,7 @@ alone_shown true plan name block count number shown = alone_line name plan.brief
 abbrev pub shows_breaking : Plan → Bool
 shows_breaking plan = not plan.brief && not plan.json
 
--- the schedule of an outcome that is shown alone: left out in brief JSON
+-- the schedule of the only outcome that is shown: left out in brief JSON
 abbrev pub shows_alone : Plan → Bool
 shows_alone plan = not plan.brief || not plan.json
 
@@ -63,10 +63,10 @@ pub record IsChosen (number : ℕ) (plan : Plan) (spec : RoomSpec) (block : List
   pub well_is : well ≡ is_some (slice_get ordered (number - 1))
   pub text_is : text ≡ alone_shown plan.json plan spec.name block (length ordered) number shown
 
--- what is written of a room: its outcomes, and its task; or one outcome alone
-abbrev pub IsTold : Option ℕ → Plan → RoomSpec → List ℕ → List Counted → Bool → List ℕ → Type 0
-IsTold None plan spec block outcomes well text = IsListed plan spec block outcomes well text
-IsTold (Some number) plan spec block outcomes well text = IsChosen number plan spec block outcomes well text
+-- what is written of a room: its outcomes, and its task; or a single outcome
+abbrev pub IsReported : Option ℕ → Plan → RoomSpec → List ℕ → List Counted → Bool → List ℕ → Type 0
+IsReported None plan spec block outcomes well text = IsListed plan spec block outcomes well text
+IsReported (Some number) plan spec block outcomes well text = IsChosen number plan spec block outcomes well text
 
 -- The text shows a sample of the room, in groups if they are asked for: each outcome is among the outcomes of all runs of the room's protocol. The block
 -- says the room.
@@ -76,7 +76,7 @@ pub record IsSampleText (plan : Plan) (spec : RoomSpec) (well : Bool) (text : Li
   pub outcomes : List Counted
   pub sample : IsSample spec plan outcomes
   pub among : AreAmongAll spec outcomes
-  pub told : IsTold plan.outcome plan spec block (grouped_if plan.group outcomes) well text
+  pub reported : IsReported plan.outcome plan spec block (grouped_if plan.group outcomes) well text
 
 -- a text for each room, in order; all is well if it is for each
 abbrev pub AreSampleTexts : Plan → List RoomSpec → Bool → List (List ℕ) → Type 0
@@ -136,6 +136,6 @@ pub record AddsFirst (plan : Plan) (specs : List RoomSpec) (before after : List 
   pub next : RoomSpec
   pub there : slice_get specs count ≡ Some next
   pub well : Bool
-  pub told : List ℕ
-  pub first : AddsSamples plan (take count specs) well before told
-  pub rest : AddsCut plan next told after
+  pub reported : List ℕ
+  pub first : AddsSamples plan (take count specs) well before reported
+  pub rest : AddsCut plan next reported after

@@ -8,7 +8,7 @@ use Rattle.room_files.specs.declared.outcome.Outcome.{Outcome}
 use Rattle.view_sample.specs.Rooms.{AddsFirst, AddsSamples}
 use Rattle.room_sample.specs.declared.sampling.Plan.{Plan}
 
--- text for people is written, and not scripts or JSON alone
+-- text for people is written, and not only scripts or JSON
 abbrev pub is_for_people : Plan → Bool
 is_for_people plan = not (is_some plan.outcome) && not plan.json
 
@@ -24,17 +24,17 @@ last_of people = if people then codes "\nthis is a sample of simulations: other 
 -- if no block was refused and no schedule broke a room's task. Or the scripts of one outcome of each room, and nothing else; then all is well if
 -- no block was refused and each room has that outcome.
 pub record IsSampleOutput (plan : Plan) (setup : Setup) (outcome : Outcome) (output : List ℕ) : Type 0 where
-  pub told : List ℕ
+  pub reported : List ℕ
   pub well : Bool
-  pub samples : AddsSamples plan setup.rooms well (head_of (is_for_people plan) setup.refused) told
-  pub output_is : output ≡ told ++ last_of (is_for_people plan)
+  pub samples : AddsSamples plan setup.rooms well (head_of (is_for_people plan) setup.refused) reported
+  pub output_is : output ≡ reported ++ last_of (is_for_people plan)
   pub outcome_is : outcome ≡ outcome_if ((length setup.refused == 0) && well)
 
 -- The same, but an allocation failed for a room: the samples of those before it, and what there was memory for of its own.
 pub record IsCutOutput (plan : Plan) (setup : Setup) (output : List ℕ) : Type 0 where
-  pub told : List ℕ
-  pub samples : AddsFirst plan setup.rooms (head_of (is_for_people plan) setup.refused) told
-  pub output_is : output ≡ told ++ last_of (is_for_people plan)
+  pub reported : List ℕ
+  pub samples : AddsFirst plan setup.rooms (head_of (is_for_people plan) setup.refused) reported
+  pub output_is : output ≡ reported ++ last_of (is_for_people plan)
 
 -- An `Err` says that an allocation failed.
 abbrev pub IsSampleOr : Plan → Setup → Result Outcome AllocError → List ℕ → Type 0

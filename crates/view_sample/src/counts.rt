@@ -49,7 +49,7 @@ fn one_if_once(states: &States, outcome: &Outcome) -> usize
 }
 
 /// How many different values are decided.
-pub(crate) fn values_in(states: &[ProcessState]) -> usize
+pub fn values_in(states: &[ProcessState]) -> usize
     ensures { result ≡ values_in states.now }
 {
     let mut count = 0;

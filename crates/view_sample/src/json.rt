@@ -107,8 +107,16 @@ fn outcome_value(alloc: Global, name: &str, brief: bool, one: &Example) -> Resul
     json!(in alloc; {"processes": processes, "room": name, "schedule": schedule, "times": times})
 }
 
-/// A schedule, unless schedules are left out.
-fn schedule_unless(alloc: Global, brief: bool, schedule: &[Stretch]) -> Result<Value, AllocError>
+/// A schedule, stretch by stretch, unless schedules are left out.
+///
+/// # Errors
+///
+/// An allocation that fails.
+pub fn schedule_unless(
+    alloc: Global,
+    brief: bool,
+    schedule: &[Stretch],
+) -> Result<Value, AllocError>
     ensures { IfOk result (λ value. view value ≡ schedule_unless brief schedule.now) }
 {
     if brief {

@@ -194,7 +194,7 @@ fn shows_breaking(plan: &Plan) -> bool
     !plan.brief && !plan.json
 }
 
-/// Whether the schedule of an outcome is shown that is alone.
+/// Whether the schedule of the only outcome is shown.
 fn shows_alone(plan: &Plan) -> bool
     ensures { result ≡ shows_alone plan.now }
 {

@@ -31,7 +31,7 @@ pub fn sample_blocks<W: Workers, P: Progress>(
 ) -> Result<PlayText, AllocError>
     requires may { W.may_count }
     requires fits { length input.now ≤ most_bytes }
-    ensures { IfOk result (λ told. IsSampleFor plan.now input.now told.ending told.output) }
+    ensures { IfOk result (λ reported. IsSampleFor plan.now input.now reported.ending reported.output) }
 {
     let no_blocks = Setup::new(BlockList::new(alloc), Text::new(alloc));
     let Setup { rooms, refused, .. } = read_all_blocks(alloc, no_blocks, input)?;
@@ -51,7 +51,7 @@ fn ending_of(is_accepted: bool, samples: Result<bool, AllocError>) -> Result<Out
     Ok(outcome_if(is_accepted & samples?))
 }
 
-/// Whether text for people is written, and not scripts or JSON alone.
+/// Whether text for people is written, and not only scripts or JSON.
 fn is_for_people(plan: &Plan) -> bool
     ensures { result ≡ is_for_people plan.now }
 {
@@ -59,7 +59,7 @@ fn is_for_people(plan: &Plan) -> bool
 }
 
 /// What comes before the samples: the lines of the refused blocks, in text for people.
-fn head_of(alloc: Global, plan: &Plan, refused: Text) -> Text
+pub(crate) fn head_of(alloc: Global, plan: &Plan, refused: Text) -> Text
     ensures { result ≡ head_of (is_for_people plan.now) refused }
 {
     if is_for_people(plan) {
@@ -70,7 +70,7 @@ fn head_of(alloc: Global, plan: &Plan, refused: Text) -> Text
 }
 
 /// Writes what comes after the samples, in text for people: that they are samples.
-fn write_last(output: &mut Text, plan: &Plan) -> Result<(), AllocError>
+pub(crate) fn write_last(output: &mut Text, plan: &Plan) -> Result<(), AllocError>
     ensures { OnOk result (output.new ≡ output.old ++ last_of (is_for_people plan.now)) }
 {
     if is_for_people(plan) {

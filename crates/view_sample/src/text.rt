@@ -124,8 +124,12 @@ fn write_times(output: &mut Text, name: &[u8], times: u32) -> Result<(), AllocEr
     output.put(b" times\n")
 }
 
-/// Writes a script for `play`, unless scripts are left out.
-pub(crate) fn write_script_unless(
+/// Writes a script for `play` that follows a schedule in the room of a block, unless scripts are left out.
+///
+/// # Errors
+///
+/// An allocation that fails.
+pub fn write_script_unless(
     output: &mut Text,
     brief: bool,
     name: &[u8],

@@ -19,7 +19,7 @@ use Rattle.script_play.specs.Play.{Done, Replied, done_text, refusal_in}
 use Rattle.script_play.specs.ReplyTexts.{sim_in}
 use Rattle.script_play.proofs.CallerLemmas.{followed_as}
 use Rattle.fault_text.specs.Lines.{indented}
-use Rattle.step_words.specs.Told.{IsTold, Telling, nothing_told}
+use Rattle.step_words.specs.Reported.{IsReported, Reporting, nothing_reported}
 use Rattle.view_trace.specs.Decisions.{decisions_under}
 use Rattle.view_trace.specs.Trace.{AreNotesFor, AreNotesOn, IsJsonTraceFor, IsTraceFor, IsTraceIn, IsTraced, IsWhole, MissedRooms, Traced, answer_text, done_shown, end_shown, missed_after, missed_by, nothing_traced, notes_after, refusal_shown}
 
@@ -29,8 +29,8 @@ two_pieces (Ok done) output line why middle said now first same last = last ∙ 
 two_pieces (Err fault) output line why middle said now first same last = tt
 
 -- the line of a block that was not read
-pub lack_line : (line code : ℕ) (output middle : List ℕ) → code ≡ 8 → middle ≡ output ++ refused_line line (decimal code) → middle ≡ output ++ refused_line line (codes "8")
-lack_line line code output middle is written = written ∙ ap (λ (t : List ℕ). output ++ refused_line line t) (ap decimal is ∙ decimal_digit 8 (omega arith))
+pub out_of_memory_line : (line code : ℕ) (output middle : List ℕ) → code ≡ 8 → middle ≡ output ++ refused_line line (decimal code) → middle ≡ output ++ refused_line line (codes "8")
+out_of_memory_line line code output middle is written = written ∙ ap (λ (t : List ℕ). output ++ refused_line line t) (ap decimal is ∙ decimal_digit 8 (omega arith))
 
 -- what is written of a reply is what is shown of what was done
 answered : (json : Bool) (command : Command) (reply : Reply) → answer_text json (name_in command) (sim_in command) reply ≡ done_shown json (Replied command reply)
@@ -38,19 +38,19 @@ answered false command reply = refl
 answered true command reply = refl
 
 -- the notes under a reply
-notes_on : (json : Bool) (missed : MissedRooms) (room left : Option RoomState) (command : Command) (reply : Reply) (seen : Option Telling) → AreWatched IsTold (Some (nothing_told json)) (steps_of room command) seen → (refusal_in reply ≡ None → IsWhole seen)
+notes_on : (json : Bool) (missed : MissedRooms) (room left : Option RoomState) (command : Command) (reply : Reply) (seen : Option Reporting) → AreWatched IsReported (Some (nothing_reported json)) (steps_of room command) seen → (refusal_in reply ≡ None → IsWhole seen)
     → AreNotesOn json missed room left command reply (notes_after json missed (name_in command) reply seen ++ decisions_under reply json (decisions_at left))
-notes_on json missed room left command reply None told whole = absurd told
-notes_on json missed room left command Begun (Some telling) told whole = record { telling = telling; told = told; whole = whole refl; lines_are = append-nil telling.lines }
-notes_on json missed room left command (Steps taken last) (Some telling) told whole = record { telling = telling; told = told; whole = whole refl; lines_are = append-nil telling.lines }
-notes_on json missed room left command (Crash answer) (Some telling) told whole = record { telling = telling; told = told; whole = whole refl; lines_are = append-nil telling.lines }
-notes_on json missed room left command Settled (Some telling) told whole = record { telling = telling; told = told; whole = whole refl; lines_are = append-nil telling.lines }
-notes_on json missed room left command (Report report) (Some telling) told whole = (telling.lines, record { telling = telling; told = told; whole = whole refl; lines_are = refl }, refl)
-notes_on json missed room left command Closed (Some telling) told whole = record { telling = telling; told = told; whole = whole refl; lines_are = append-nil telling.lines }
-notes_on json missed room left command (Refused refusal) (Some telling) told whole = append-nil (refusal_shown json missed (name_in command) refusal)
+notes_on json missed room left command reply None reported whole = absurd reported
+notes_on json missed room left command Begun (Some reporting) reported whole = record { reporting = reporting; reported = reported; whole = whole refl; lines_are = append-nil reporting.lines }
+notes_on json missed room left command (Steps taken last) (Some reporting) reported whole = record { reporting = reporting; reported = reported; whole = whole refl; lines_are = append-nil reporting.lines }
+notes_on json missed room left command (Crash answer) (Some reporting) reported whole = record { reporting = reporting; reported = reported; whole = whole refl; lines_are = append-nil reporting.lines }
+notes_on json missed room left command Settled (Some reporting) reported whole = record { reporting = reporting; reported = reported; whole = whole refl; lines_are = append-nil reporting.lines }
+notes_on json missed room left command (Report report) (Some reporting) reported whole = (reporting.lines, record { reporting = reporting; reported = reported; whole = whole refl; lines_are = refl }, refl)
+notes_on json missed room left command Closed (Some reporting) reported whole = record { reporting = reporting; reported = reported; whole = whole refl; lines_are = append-nil reporting.lines }
+notes_on json missed room left command (Refused refusal) (Some reporting) reported whole = append-nil (refusal_shown json missed (name_in command) refusal)
 
 -- a command was done
-module _ (json : Bool) (first ready now : Traced) (rooms after : Entries) (command : Command) (reply : Reply) (seen : Option Telling) (name : List ℕ) (sim : ℕ) (named : name ≡ name_in command) (of : sim ≡ sim_in command)
+module _ (json : Bool) (first ready now : Traced) (rooms after : Entries) (command : Command) (reply : Reply) (seen : Option Reporting) (name : List ℕ) (sim : ℕ) (named : name ≡ name_in command) (of : sim ≡ sim_in command)
     (missed : ready.missed ≡ first.missed) (output : ready.output ≡ first.output) where
   abbrev said : List ℕ → MissedRooms → List ℕ → ℕ → List ℕ
   said out known n i = ((out ++ answer_text json n i reply) ++ notes_after json known n reply seen) ++ decisions_under reply json (decisions_at (room_at after n))
@@ -65,12 +65,12 @@ module _ (json : Bool) (first ready now : Traced) (rooms after : Entries) (comma
       ∙ append_assoc first.output (answer_text json (name_in command) (sim_in command) reply) under
       ∙ ap (λ (t : List ℕ). first.output ++ (t ++ under)) (answered json command reply)
 
-  pub command_traced : (middle noted : List ℕ) → AreWatched IsTold (Some (nothing_told json)) (steps_of (room_at rooms (name_in command)) command) seen → (refusal_in reply ≡ None → IsWhole seen)
+  pub command_traced : (middle noted : List ℕ) → AreWatched IsReported (Some (nothing_reported json)) (steps_of (room_at rooms (name_in command)) command) seen → (refusal_in reply ≡ None → IsWhole seen)
       → middle ≡ ready.output ++ answer_text json name sim reply → noted ≡ middle ++ notes_after json ready.missed name reply seen → now.output ≡ noted ++ decisions_under reply json (decisions_at (room_at after name))
       → now.missed ≡ missed_by ready.missed name reply → IsTraced json first rooms (Replied command reply) after now
-  command_traced middle noted told whole one two three known = record {
+  command_traced middle noted reported whole one two three known = record {
     notes = under;
-    are_notes = notes_on json first.missed (room_at rooms (name_in command)) (room_at after (name_in command)) command reply seen told whole;
+    are_notes = notes_on json first.missed (room_at rooms (name_in command)) (room_at after (name_in command)) command reply seen reported whole;
     missed = known ∙ ap₂ (λ m n. missed_by m n reply) missed named;
     output = three ∙ ap (λ (t : List ℕ). t ++ decisions_under reply json (decisions_at (room_at after name))) (two ∙ ap (λ (t : List ℕ). t ++ notes_after json ready.missed name reply seen) one) ∙ said_is;
   }

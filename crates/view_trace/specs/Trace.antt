@@ -20,9 +20,9 @@ use Rattle.room_files.specs.declared.outcome.Outcome.{Outcome}
 use Rattle.script_play.specs.Play.{AreDone, AreReplies, Done, Faulty, IsPlayText, Replied, Unread, commands_of, done_text, ending_of, replies_in}
 use Rattle.script_play.specs.ReplyTexts.{reply_text}
 use Rattle.json_lines.specs.Lines.{json_line}
-use Rattle.step_words.specs.Told.{IsTold, Telling, nothing_told}
+use Rattle.step_words.specs.Reported.{IsReported, Reporting, nothing_reported}
 use Rattle.fault_text.specs.Lines.{indented}
-use Rattle.fault_text.specs.Strangers.{MetNames, is_met, met, more_note, refused_strangers}
+use Rattle.fault_text.specs.UnknownNames.{MetNames, is_met, met, more_note, refused_unknown_names}
 use Rattle.fault_text.specs.declared.refusals.RefusedBlock.{RefusedBlock}
 use Rattle.view_trace.specs.Decisions.{decisions_shown}
 use Rattle.view_trace.specs.Json.{done_data, reply_data}
@@ -32,19 +32,19 @@ use Rattle.view_trace.specs.declared.missed.TheConstants.{MORE_COMMANDS}
 
 -- these steps, one after the other, as text or as JSON
 pub record AreLinesOf (json : Bool) (steps : List TakenStep) (lines : List ℕ) : Type 0 where
-  pub telling : Telling
-  pub told : AreSeen IsTold (nothing_told json) steps telling
-  pub whole : telling.lacks ≡ false
-  pub lines_are : lines ≡ telling.lines
+  pub reporting : Reporting
+  pub reported : AreSeen IsReported (nothing_reported json) steps reporting
+  pub whole : reporting.ran_out ≡ false
+  pub lines_are : lines ≡ reporting.lines
 
 -- What is known of rooms that don't exist: the blocks that were refused so far, and the names of commands that no room has.
 pub record MissedRooms : Type 0 where
   pub refused : List RefusedBlock
-  pub strangers : MetNames
+  pub unknown_names : MetNames
 
 -- after a command with this name was refused
 abbrev pub missed_refused : MissedRooms → List ℕ → Reason → MissedRooms
-missed_refused missed name NoRoom = record { refused = missed.refused; strangers = met name missed.strangers }
+missed_refused missed name NoRoom = record { refused = missed.refused; unknown_names = met name missed.unknown_names }
 missed_refused missed name NameTaken = missed
 missed_refused missed name NoSimulator = missed
 missed_refused missed name OutOfMemory = missed
@@ -61,20 +61,20 @@ missed_by missed name Closed = missed
 
 abbrev pub missed_after : MissedRooms → Done → MissedRooms
 missed_after missed (Replied command reply) = missed_by missed (name_in command) reply
-missed_after missed (Faulty line fault) = record { refused = missed.refused ++ record { line = line; fault = Spec fault } ∷ []; strangers = missed.strangers }
+missed_after missed (Faulty line fault) = record { refused = missed.refused ++ record { line = line; fault = Spec fault } ∷ []; unknown_names = missed.unknown_names }
 missed_after missed (Unread line) = missed
 
 -- under the first command with a name that no room has: that there is none
-abbrev pub stranger_notes : MissedRooms → List ℕ → List ℕ
-stranger_notes missed name = if is_met name missed.strangers then [] else indented (refusal_sentence NoRoom)
+abbrev pub unknown_name_notes : MissedRooms → List ℕ → List ℕ
+unknown_name_notes missed name = if is_met name missed.unknown_names then [] else indented (refusal_sentence NoRoom)
 
 -- at the end of a script: which of its blocks of such names are refused, and how many more commands have one of them
 abbrev pub end_notes : List ℕ → MissedRooms → List ℕ
-end_notes script missed = refused_strangers script missed.refused missed.strangers.names ++ more_note MORE_COMMANDS.now missed.strangers
+end_notes script missed = refused_unknown_names script missed.refused missed.unknown_names.names ++ more_note MORE_COMMANDS.now missed.unknown_names
 
 -- why a command with this name was refused
 abbrev pub refusal_notes : MissedRooms → List ℕ → Reason → List ℕ
-refusal_notes missed name NoRoom = stranger_notes missed name
+refusal_notes missed name NoRoom = unknown_name_notes missed name
 refusal_notes missed name NameTaken = indented (refusal_sentence NameTaken)
 refusal_notes missed name NoSimulator = indented (refusal_sentence NoSimulator)
 refusal_notes missed name OutOfMemory = indented (refusal_sentence OutOfMemory)
@@ -118,7 +118,7 @@ pub record Traced : Type 0 where
   pub output : List ℕ
 
 abbrev pub nothing_traced : Traced
-nothing_traced = record { missed = record { refused = []; strangers = record { names = []; more = 0 } }; output = [] }
+nothing_traced = record { missed = record { refused = []; unknown_names = record { names = []; more = 0 } }; output = [] }
 
 -- one thing more was done to these rooms, which led to those: it is said, with its notes
 pub record IsTraced (json : Bool) (before : Traced) (rooms : Entries) (done : Done) (left : Entries) (now : Traced) : Type 0 where
@@ -159,19 +159,19 @@ IsJsonTraceFor input ending output = IsTraceIn true input ending output
 -- ---- inside the crate
 
 -- the lines of the steps that were seen, if something saw them
-abbrev pub lines_in : Option Telling → List ℕ
+abbrev pub lines_in : Option Reporting → List ℕ
 lines_in None = []
-lines_in (Some telling) = telling.lines
+lines_in (Some reporting) = reporting.lines
 
 -- no allocation failed for one
-abbrev pub IsWhole : Option Telling → Type 0
+abbrev pub IsWhole : Option Reporting → Type 0
 IsWhole None = ⊤
-IsWhole (Some telling) = telling.lacks ≡ false
+IsWhole (Some reporting) = reporting.ran_out ≡ false
 
 -- what is noted under a reply by an observer of the steps
-abbrev pub notes_after : Bool → MissedRooms → List ℕ → Reply → Option Telling → List ℕ
-notes_after json missed name (Refused refusal) telling = refusal_shown json missed name refusal
-notes_after json missed name reply telling = lines_in telling
+abbrev pub notes_after : Bool → MissedRooms → List ℕ → Reply → Option Reporting → List ℕ
+notes_after json missed name (Refused refusal) reporting = refusal_shown json missed name refusal
+notes_after json missed name reply reporting = lines_in reporting
 
 -- what is written of a reply
 abbrev pub answer_text : Bool → List ℕ → ℕ → Reply → List ℕ
@@ -182,5 +182,5 @@ answer_text true name sim reply = json_line (reply_data name sim reply)
 abbrev pub fault_written : Bool → ℕ → SpecFault → List ℕ
 fault_written json line fault = done_shown json (Faulty line fault) ++ block_shown json (sentence_of fault)
 
-abbrev pub lack_written : Bool → ℕ → List ℕ
-lack_written json line = done_shown json (Unread line) ++ block_shown json (refusal_sentence OutOfMemory)
+abbrev pub out_of_memory_written : Bool → ℕ → List ℕ
+out_of_memory_written json line = done_shown json (Unread line) ++ block_shown json (refusal_sentence OutOfMemory)

@@ -154,18 +154,18 @@ fn fault_value(alloc: Global, line: u64, fault: SpecFault) -> Result<Value, Allo
 }
 
 /// Writes that the block with this first line was not read, since an allocation failed.
-pub(crate) fn write_lack_object(
+pub(crate) fn write_out_of_memory_object(
     alloc: Global,
     output: &mut Text,
     line: u64,
 ) -> Result<(), AllocError>
     ensures { OnOk result (output.new ≡ output.old ++ json_line (block_data line (8 ∷ []) (refusal_sentence OutOfMemory))) }
 {
-    let value = lack_value(alloc, line)?;
+    let value = out_of_memory_value(alloc, line)?;
     write_line(alloc, output, &value)
 }
 
-fn lack_value(alloc: Global, line: u64) -> Result<Value, AllocError>
+fn out_of_memory_value(alloc: Global, line: u64) -> Result<Value, AllocError>
     ensures { IfOk result (λ value. view value ≡ block_data line (8 ∷ []) (refusal_sentence OutOfMemory)) }
 {
     let words = Refusal::OutOfMemory.sentence();

@@ -1,10 +1,10 @@
 //! Rooms that don't exist: blocks of a script that were refused, and names of commands that no room has.
 ghost use Rattle.std.specs.Prelude.{◌≡◌, ◌++◌, [], IfOk, OnOk};
-ghost use Rattle.fault_text.specs.Strangers.{is_met, met};
+ghost use Rattle.fault_text.specs.UnknownNames.{is_met, met};
 ghost use Rattle.script_play.specs.Play.{Faulty};
-ghost use Rattle.view_trace.specs.Trace.{end_notes, missed_after, missed_refused, stranger_notes};
+ghost use Rattle.view_trace.specs.Trace.{end_notes, missed_after, missed_refused, unknown_name_notes};
 
-use fault_text::{Refusals, RefusedBlock, Strangers, write_indented};
+use fault_text::{Refusals, RefusedBlock, UnknownNames, write_indented};
 use io_text::Text;
 use room_files::BlockFault;
 use room_spec::SpecFault;
@@ -19,7 +19,7 @@ const MORE_COMMANDS: &[u8] = b" more commands have such a name";
 #[derive(Drop)]
 pub(crate) struct Missed {
     refused: Refusals,
-    strangers: Strangers,
+    unknown_names: UnknownNames,
 }
 
 impl Model for Missed {
@@ -27,16 +27,16 @@ impl Model for Missed {
 
     ghost Value = { MissedRooms };
 
-    ghost view = { λ missed. record { refused = missed.refused; strangers = missed.strangers } };
+    ghost view = { λ missed. record { refused = missed.refused; unknown_names = missed.unknown_names } };
 }
 
 impl Missed {
     pub(crate) fn new(alloc: Global) -> Missed
-        ensures { result ≡ record { refused = []; strangers = record { names = []; more = 0 } } }
+        ensures { result ≡ record { refused = []; unknown_names = record { names = []; more = 0 } } }
     {
         Missed {
             refused: Refusals::new(alloc),
-            strangers: Strangers::new(alloc),
+            unknown_names: UnknownNames::new(alloc),
         }
     }
 
@@ -69,14 +69,14 @@ impl Missed {
     }
 
     /// Writes under a command with a name that no room has, unless an earlier command has the same name, that there is none.
-    pub(crate) fn write_stranger(
+    pub(crate) fn write_unknown_name(
         &mut self,
         alloc: Global,
         output: &mut Text,
         name: &[u8],
     ) -> Result<(), AllocError>
-        ensures text { OnOk result (output.new ≡ output.old ++ stranger_notes self.old name.now) }
-        ensures met { OnOk result (self.new ≡ record self.old { strangers = met name.now self.old.strangers }) }
+        ensures text { OnOk result (output.new ≡ output.old ++ unknown_name_notes self.old name.now) }
+        ensures met { OnOk result (self.new ≡ record self.old { unknown_names = met name.now self.old.unknown_names }) }
     {
         if self.meet(alloc, name)? {
             return Ok(());
@@ -85,17 +85,18 @@ impl Missed {
     }
 
     fn meet(&mut self, alloc: Global, name: &[u8]) -> Result<bool, AllocError>
-        ensures before { IfOk result (λ before. before ≡ is_met name.now self.old.strangers) }
-        ensures met { OnOk result (self.new ≡ record self.old { strangers = met name.now self.old.strangers }) }
+        ensures before { IfOk result (λ before. before ≡ is_met name.now self.old.unknown_names) }
+        ensures met { OnOk result (self.new ≡ record self.old { unknown_names = met name.now self.old.unknown_names }) }
     {
-        self.strangers.meet(alloc, name)
+        self.unknown_names.meet(alloc, name)
     }
 
     /// Writes at the end of a script which of its blocks of such names were refused, and how many further commands have one of them.
     pub(crate) fn write_end(&self, output: &mut Text, script: &[u8]) -> Result<(), AllocError>
         ensures { OnOk result (output.new ≡ output.old ++ end_notes script.now self.now) }
     {
-        self.strangers.write_refused(output, script, &self.refused)?;
-        self.strangers.write_more(output, MORE_COMMANDS)
+        self.unknown_names
+            .write_refused(output, script, &self.refused)?;
+        self.unknown_names.write_more(output, MORE_COMMANDS)
     }
 }

@@ -1,12 +1,12 @@
 //! What is said of a script: its replies, and under each the atomic steps that its command took, or what the simulators have decided.
 ghost use Rattle.std.specs.Prelude.{◌≡◌, ◌++◌, [], None, Option, OnOk};
-ghost use Rattle.step_words.specs.Told.{Telling};
+ghost use Rattle.step_words.specs.Reported.{Reporting};
 ghost use Rattle.script_play.specs.Play.{refusal_in};
-ghost use Rattle.view_trace.specs.Trace.{IsWhole, answer_text, fault_written, lack_written, lines_in, missed_by, missed_refused, notes_after, refusal_shown};
+ghost use Rattle.view_trace.specs.Trace.{IsWhole, answer_text, fault_written, out_of_memory_written, lines_in, missed_by, missed_refused, notes_after, refusal_shown};
 ghost use Rattle.script_play.specs.Following.{sim_for};
 
 use crate::decisions::write_decisions;
-use crate::json::{write_fault_object, write_lack_object, write_reply_object};
+use crate::json::{write_fault_object, write_out_of_memory_object, write_reply_object};
 use crate::missed::Missed;
 use fault_text::write_indented;
 use io_text::Text;
@@ -28,7 +28,7 @@ pub(crate) struct Tracer<const JSON: bool> {
 impl<const JSON: bool> Tracer<JSON> {
     pub(crate) fn new(alloc: Global) -> Tracer<JSON>
         ensures output { result.output ≡ [] }
-        ensures missed { result.missed ≡ record { refused = []; strangers = record { names = []; more = 0 } } }
+        ensures missed { result.missed ≡ record { refused = []; unknown_names = record { names = []; more = 0 } } }
     {
         Tracer {
             alloc,
@@ -97,7 +97,7 @@ impl<const JSON: bool> Tracer<JSON> {
         match refusal {
             Refusal::NoRoom => self
                 .missed
-                .write_stranger(self.alloc, &mut self.output, name),
+                .write_unknown_name(self.alloc, &mut self.output, name),
             Refusal::NameTaken | Refusal::NoSimulator | Refusal::OutOfMemory => {
                 write_indented(&mut self.output, refusal.sentence().as_bytes())
             }
@@ -107,14 +107,14 @@ impl<const JSON: bool> Tracer<JSON> {
 
 impl<const JSON: bool> Follows for Tracer<JSON> {
     ghost use Rattle.std.specs.Prelude.{◌≡◌, Some};
-    ghost use Rattle.step_words.specs.Told.{nothing_told};
+    ghost use Rattle.step_words.specs.Reported.{nothing_reported};
     ghost use Rattle.view_trace.specs.Trace.{IsTraced};
 
     type Watch = StepTexts;
 
     ghost follows = { λ old rooms done after new. IsTraced JSON (record { missed = old.missed; output = old.output }) rooms done after (record { missed = new.missed; output = new.output }) };
 
-    ghost readies = { λ old rooms command new watch. (new.missed ≡ old.missed) × (new.output ≡ old.output) × (watch ≡ Some (nothing_told JSON)) };
+    ghost readies = { λ old rooms command new watch. (new.missed ≡ old.missed) × (new.output ≡ old.output) × (watch ≡ Some (nothing_reported JSON)) };
 
     fn opens(
         &mut self,
@@ -151,8 +151,8 @@ impl<const JSON: bool> Follows for Tracer<JSON> {
         write_fault::<JSON>(self.alloc, &mut self.output, line, fault)
     }
 
-    fn lack(&mut self, line: u64) -> Result<(), AllocError> {
-        write_lack::<JSON>(self.alloc, &mut self.output, line)
+    fn out_of_memory(&mut self, line: u64) -> Result<(), AllocError> {
+        write_out_of_memory::<JSON>(self.alloc, &mut self.output, line)
     }
 }
 
@@ -174,16 +174,16 @@ fn write_fault<const JSON: bool>(
 }
 
 /// Writes that a block was refused because an allocation failed.
-#[tactic(auto, using(crate::proofs::Tracing::two_pieces, crate::proofs::Tracing::lack_line))]
-fn write_lack<const JSON: bool>(
+#[tactic(auto, using(crate::proofs::Tracing::two_pieces, crate::proofs::Tracing::out_of_memory_line))]
+fn write_out_of_memory<const JSON: bool>(
     alloc: Global,
     output: &mut Text,
     line: u64,
 ) -> Result<(), AllocError>
-    ensures { OnOk result (output.new ≡ output.old ++ lack_written JSON line) }
+    ensures { OnOk result (output.new ≡ output.old ++ out_of_memory_written JSON line) }
 {
     if JSON {
-        return write_lack_object(alloc, output, line);
+        return write_out_of_memory_object(alloc, output, line);
     }
     let refusal = Refusal::OutOfMemory;
     write_refused_code(output, line, refusal.code())?;

@@ -145,7 +145,7 @@ impl Follows for Transcriber {
         Ok(())
     }
 
-    fn lack(&mut self, _line: u64) -> Result<(), AllocError> {
+    fn out_of_memory(&mut self, _line: u64) -> Result<(), AllocError> {
         Ok(())
     }
 }

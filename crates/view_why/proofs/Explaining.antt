@@ -14,31 +14,31 @@ use Rattle.transcript.specs.Runs.{IsFirstBreak, IsRun}
 use Rattle.history_checker.specs.Verdicts.{FedEvent, IsTaskAnswer, IsVerdict, events_of, fed_to}
 use Rattle.room_files.specs.Blocks.{Setup}
 use Rattle.room_files.specs.Faults.{FaultAt}
-use Rattle.room_files.specs.Inputs.{events_behind, fed_from}
+use Rattle.room_files.specs.Inputs.{later_events, fed_from}
 use Rattle.room_files.specs.Lines.{text_lines}
 use Rattle.room_files.specs.Verdicts.{IsJustified, Judged, is_well, outcome_if}
 use Rattle.room_files.specs.declared.outcome.Outcome.{Outcome}
 use Rattle.fault_text.specs.Refusals.{refusal_line}
-use Rattle.view_why.specs.Told.{IsLineBreak, IsTold, ToldRoom, lines_of}
-use Rattle.view_why.specs.Why.{Explained, IsExplained, IsExplanation, IsReasonIn, IsRoomSaid, explained_lines, refusals_shown, told_of, verdict_of}
+use Rattle.view_why.specs.Reported.{IsLineBreak, IsReported, ReportedRoom, lines_of}
+use Rattle.view_why.specs.Why.{Explained, IsExplained, IsExplanation, IsReasonIn, IsRoomSaid, explained_lines, refusals_shown, reported_of, verdict_of}
 use Rattle.fault_text.specs.declared.refusals.RefusedBlock.{RefusedBlock}
-use Rattle.view_why.specs.declared.told.LineBreak.{LineBreak}
-use Rattle.view_why.proofs.Telling.{fed_at}
+use Rattle.view_why.specs.declared.reported.LineBreak.{LineBreak}
+use Rattle.view_why.proofs.Reporting.{fed_at}
 
 -- the verdict of a room's break
-pub is_verdict : (told : ToldRoom) (fed : List FedEvent) (reason : Result (Unit {0}) LineBreak) → IsTold fed told → (IsOk reason → IsRun told.spec told.events) → ((broken : LineBreak) → reason ≡ Err broken → IsLineBreak told broken)
-    → IsVerdict told.spec fed (verdict_of reason)
-is_verdict told fed (Ok run) is runs breaks = subst (IsRun told.spec) is.0 (runs refl)
-is_verdict told fed (Err broken) is runs breaks =
+pub is_verdict : (reported : ReportedRoom) (fed : List FedEvent) (reason : Result (Unit {0}) LineBreak) → IsReported fed reported → (IsOk reason → IsRun reported.spec reported.events) → ((broken : LineBreak) → reason ≡ Err broken → IsLineBreak reported broken)
+    → IsVerdict reported.spec fed (verdict_of reason)
+is_verdict reported fed (Ok run) is runs breaks = subst (IsRun reported.spec) is.0 (runs refl)
+is_verdict reported fed (Err broken) is runs breaks =
     let breaks_there = breaks broken refl in
     let on = fed_at fed broken.at broken.line (subst (λ (lines : List ℕ). slice_get lines broken.at ≡ Some broken.line) is.1 breaks_there.line) in
-    record { place = broken.at; first = subst (λ (events : List Event). IsFirstBreak told.spec events broken.at) is.0 breaks_there.first.first; one = on.one; there = on.there; line_is = on.line_is }
+    record { place = broken.at; first = subst (λ (events : List Event). IsFirstBreak reported.spec events broken.at) is.0 breaks_there.first.first; one = on.one; there = on.there; line_is = on.line_is }
 
--- what is told of a room, by what was fed
-pub told_is : (told : ToldRoom) (fed : List FedEvent) → IsTold fed told → told ≡ record { spec = told.spec; events = events_of fed; lines = lines_of fed }
-told_is told fed is =
-    ap (λ (events : List Event). record { spec = told.spec; events = events; lines = told.lines }) is.0
-    ∙ ap (λ (lines : List ℕ). record { spec = told.spec; events = events_of fed; lines = lines }) is.1
+-- what is reported of a room, by what was fed
+pub reported_is : (reported : ReportedRoom) (fed : List FedEvent) → IsReported fed reported → reported ≡ record { spec = reported.spec; events = events_of fed; lines = lines_of fed }
+reported_is reported fed is =
+    ap (λ (events : List Event). record { spec = reported.spec; events = events; lines = reported.lines }) is.0
+    ∙ ap (λ (lines : List ℕ). record { spec = reported.spec; events = events_of fed; lines = lines }) is.1
 
 -- ---- one room behind the other
 
@@ -77,7 +77,7 @@ one_more json rooms start refused fed count output well room output_now well_now
     let within = slice_get_within rooms count room there in
     let plus : count + 1 ≡ suc count = omega arith in
     let next : take (count + 1) rooms ≡ take count rooms ++ room ∷ [] = ap (λ n. take n rooms) plus ∙ take-suc rooms count room within ∙ ap (λ r. take count rooms ++ r ∷ []) (get_or_from_slice_get rooms count room room there) in
-    let P : RoomSpec → Type 0 = λ (r : RoomSpec). (IsVerdict r (fed_to r.name fed) one.judged.verdict × IsTaskAnswer r (fed_to r.name fed) one.judged.task) × IsReasonIn json (told_of r fed) one.judged.verdict one.judged.task one.notes in
+    let P : RoomSpec → Type 0 = λ (r : RoomSpec). (IsVerdict r (fed_to r.name fed) one.judged.verdict × IsTaskAnswer r (fed_to r.name fed) one.judged.task) × IsReasonIn json (reported_of r fed) one.judged.verdict one.judged.task one.notes in
     let explained : IsExplained json fed one = subst P (sym said.room) ((said.verdict, said.task), said.because) in (
       all ++ one ∷ [],
       map_push (λ (o : Explained). o.judged.room) all one ∙ ap (λ rs. rs ++ one.judged.room ∷ []) so_far.1 ∙ ap (λ r. take count rooms ++ r ∷ []) said.room ∙ sym next,
@@ -120,5 +120,5 @@ all_said json input refusals rooms fed count output well outcome all_of outcome_
 
 -- what an input says whose blocks and events were read
 pub says : (read : Result (Setup × List ℕ) FaultAt) (setup : Setup) (transcript : List ℕ) (fed : List FedEvent) → read ≡ Ok (setup, transcript) → fed_from setup.rooms [] setup.line (text_lines transcript) ≡ Ok fed
-    → events_behind read ≡ Ok (setup, fed)
+    → later_events read ≡ Ok (setup, fed)
 says read setup transcript fed is fed_is = rw (is, fed_is) refl

@@ -20,12 +20,12 @@ use Rattle.history_checker.specs.declared.verdict.Verdict.{Verdict}
 use Rattle.history_checker.specs.declared.verdict.Verdict.TheVariants.{Run, Broken}
 use Rattle.view_why.specs.Json.{action_data, break_data, decision_data, decisions_data, excess_data, input_data, kept_data, reason_data, turn_data, written_data}
 use Rattle.view_why.specs.Keeping as keeping
-use Rattle.view_why.specs.Told.{ToldRoom}
+use Rattle.view_why.specs.Reported.{ReportedRoom}
 use Rattle.view_why.specs.Why.{IsRoomData, IsTaskData}
 use Rattle.view_why.specs.Words.{shown_of}
-use Rattle.view_why.specs.declared.told.Decision.{Decision}
-use Rattle.view_why.specs.declared.told.Disallowed.{Disallowed}
-use Rattle.view_why.specs.declared.told.LineBreak.{LineBreak}
+use Rattle.view_why.specs.declared.reported.Decision.{Decision}
+use Rattle.view_why.specs.declared.reported.Disallowed.{Disallowed}
+use Rattle.view_why.specs.declared.reported.LineBreak.{LineBreak}
 
 entry_is : (entry : Option ℕ) → has_float (entry_data entry) ≡ false
 entry_is None = refl
@@ -76,17 +76,17 @@ kept_is : (most : Option ℕ) → has_float (kept_data most) ≡ false
 kept_is None = refl
 kept_is (Some most) = refl
 
-task_is : (told : ToldRoom) (task : Option TaskVerdict) (it : Data) → IsTaskData told task it → has_float it ≡ false
-task_is told None it is = ap has_float is ∙ kept_is told.spec.task
-task_is told (Some tasks.Holds) it is = ap has_float is ∙ kept_is told.spec.task
-task_is told (Some (tasks.Broken line)) it is =
+task_is : (reported : ReportedRoom) (task : Option TaskVerdict) (it : Data) → IsTaskData reported task it → has_float it ≡ false
+task_is reported None it is = ap has_float is ∙ kept_is reported.spec.task
+task_is reported (Some tasks.Holds) it is = ap has_float is ∙ kept_is reported.spec.task
+task_is reported (Some (tasks.Broken line)) it is =
     let why = is.2 in
     let exceeds = is.3 in
-    ap has_float is.4 ∙ both (has_float why) false (ap has_float exceeds.is ∙ excess_is told.spec line exceeds.event exceeds.before) refl
+    ap has_float is.4 ∙ both (has_float why) false (ap has_float exceeds.is ∙ excess_is reported.spec line exceeds.event exceeds.before) refl
 
-pub room_is : (told : ToldRoom) (verdict : Verdict) (task : Option TaskVerdict) (it : Data) → IsRoomData told verdict task it → has_float it ≡ false
-room_is told Run task it is = ap has_float is.2 ∙ both (has_float is.0) false (task_is told task is.0 is.1) refl
-room_is told (Broken line) task it is = ap has_float is.2 ∙ both (has_float is.0) false (ap has_float is.1.is ∙ break_is is.1.event is.1.broken) refl
+pub room_is : (reported : ReportedRoom) (verdict : Verdict) (task : Option TaskVerdict) (it : Data) → IsRoomData reported verdict task it → has_float it ≡ false
+room_is reported Run task it is = ap has_float is.2 ∙ both (has_float is.0) false (task_is reported task is.0 is.1) refl
+room_is reported (Broken line) task it is = ap has_float is.2 ∙ both (has_float is.0) false (ap has_float is.1.is ∙ break_is is.1.event is.1.broken) refl
 
 -- ---- decisions
 

@@ -13,10 +13,10 @@ use Rattle.transcript.specs.declared.event.Event.{Event}
 use Rattle.history_checker.specs.Verdicts.{FedEvent, fed_to}
 use Rattle.fault_text.specs.Lines.{indented, indented_all}
 use Rattle.view_why.specs.Keeping.{AddsDecisions, AreDecisionsTexts, IsDecisionsText, disallowed_in, disallowed_line, moment_words}
-use Rattle.view_why.specs.Told.{AreTold, IsToldOwn, ToldRoom, specs_of}
-use Rattle.view_why.specs.Why.{told_of}
-use Rattle.view_why.specs.declared.told.Disallowed.{Disallowed}
-use Rattle.view_why.proofs.Explaining.{told_is}
+use Rattle.view_why.specs.Reported.{AreReported, IsReportedOwn, ReportedRoom, specs_of}
+use Rattle.view_why.specs.Why.{reported_of}
+use Rattle.view_why.specs.declared.reported.Disallowed.{Disallowed}
+use Rattle.view_why.proofs.Explaining.{reported_is}
 use Rattle.view_why.proofs.Reasoning.{pieces}
 
 -- ---- rooms
@@ -29,37 +29,37 @@ and_assoc : (a b c : Bool) → ((a && b) && c) ≡ (a && (b && c))
 and_assoc true b c = refl
 and_assoc false b c = refl
 
-texts_more : (json : Bool) (lines : List Tree) (rooms : List ToldRoom) (kept : Bool) (texts : List (List ℕ)) (told : ToldRoom) (one : Bool) (text : List ℕ) → AreDecisionsTexts json lines rooms kept texts → IsDecisionsText json lines told one text
-    → AreDecisionsTexts json lines (rooms ++ told ∷ []) (kept && one) (texts ++ text ∷ [])
-texts_more json lines [] kept [] told one text are is = (one, true, is, refl, ap (λ (b : Bool). b && one) are ∙ and_right one)
-texts_more json lines (other ∷ rooms) kept (first ∷ texts) told one text are is =
-    (are.0, are.1 && one, are.2, texts_more json lines rooms are.1 texts told one text are.3 is, ap (λ (b : Bool). b && one) are.4 ∙ and_assoc are.0 are.1 one)
-texts_more json lines [] kept (first ∷ texts) told one text are is = absurd are
-texts_more json lines (other ∷ rooms) kept [] told one text are is = absurd are
+texts_more : (json : Bool) (lines : List Tree) (rooms : List ReportedRoom) (kept : Bool) (texts : List (List ℕ)) (reported : ReportedRoom) (one : Bool) (text : List ℕ) → AreDecisionsTexts json lines rooms kept texts → IsDecisionsText json lines reported one text
+    → AreDecisionsTexts json lines (rooms ++ reported ∷ []) (kept && one) (texts ++ text ∷ [])
+texts_more json lines [] kept [] reported one text are is = (one, true, is, refl, ap (λ (b : Bool). b && one) are ∙ and_right one)
+texts_more json lines (other ∷ rooms) kept (first ∷ texts) reported one text are is =
+    (are.0, are.1 && one, are.2, texts_more json lines rooms are.1 texts reported one text are.3 is, ap (λ (b : Bool). b && one) are.4 ∙ and_assoc are.0 are.1 one)
+texts_more json lines [] kept (first ∷ texts) reported one text are is = absurd are
+texts_more json lines (other ∷ rooms) kept [] reported one text are is = absurd are
 
 pub no_texts : (json : Bool) (lines : List Tree) (before : List ℕ) → AddsDecisions json lines [] true before before
 no_texts json lines before = record { texts = []; each_room = refl; after_is = sym (append-nil before) }
 
-pub one_text_more : (json : Bool) (lines : List Tree) (done : List ToldRoom) (told : ToldRoom) (kept one : Bool) (before so_far after : List ℕ) → AddsDecisions json lines done kept before so_far
-    → (text : List ℕ) × IsDecisionsText json lines told one text × (after ≡ so_far ++ text) → AddsDecisions json lines (done ++ told ∷ []) (kept && one) before after
-one_text_more json lines done told kept one before so_far after adds said =
+pub one_text_more : (json : Bool) (lines : List Tree) (done : List ReportedRoom) (reported : ReportedRoom) (kept one : Bool) (before so_far after : List ℕ) → AddsDecisions json lines done kept before so_far
+    → (text : List ℕ) × IsDecisionsText json lines reported one text × (after ≡ so_far ++ text) → AddsDecisions json lines (done ++ reported ∷ []) (kept && one) before after
+one_text_more json lines done reported kept one before so_far after adds said =
     let text = said.0 in
     record {
       texts = adds.texts ++ text ∷ [];
-      each_room = texts_more json lines done kept adds.texts told one text adds.each_room said.1;
+      each_room = texts_more json lines done kept adds.texts reported one text adds.each_room said.1;
       after_is =
           said.2 ∙ ap (λ (t : List ℕ). t ++ text) adds.after_is ∙ append_assoc before (concat adds.texts) text
           ∙ ap (λ (t : List ℕ). before ++ (concat adds.texts ++ t)) (sym (append-nil text))
           ∙ ap (λ (t : List ℕ). before ++ t) (sym (concat-append adds.texts (text ∷ [])));
     }
 
-own_by : (fed : List FedEvent) (rooms : List ToldRoom) → AllByRecursion (IsToldOwn fed) rooms → rooms ≡ map (λ (room : RoomSpec). told_of room fed) (specs_of rooms)
+own_by : (fed : List FedEvent) (rooms : List ReportedRoom) → AllByRecursion (IsReportedOwn fed) rooms → rooms ≡ map (λ (room : RoomSpec). reported_of room fed) (specs_of rooms)
 own_by fed [] each = refl
-own_by fed (told ∷ rooms) each = ap₂ (λ (one : ToldRoom) (all : List ToldRoom). one ∷ all) (told_is told (fed_to told.spec.name fed) each.0) (own_by fed rooms each.1)
+own_by fed (reported ∷ rooms) each = ap₂ (λ (one : ReportedRoom) (all : List ReportedRoom). one ∷ all) (reported_is reported (fed_to reported.spec.name fed) each.0) (own_by fed rooms each.1)
 
 -- rooms by what a transcript says of each
-pub own_rooms : (rooms : List ToldRoom) (fed : List FedEvent) → AreTold rooms fed → rooms ≡ map (λ (room : RoomSpec). told_of room fed) (specs_of rooms)
-own_rooms rooms fed told = own_by fed rooms (recursion_from_All (IsToldOwn fed) rooms told)
+pub own_rooms : (rooms : List ReportedRoom) (fed : List FedEvent) → AreReported rooms fed → rooms ≡ map (λ (room : RoomSpec). reported_of room fed) (specs_of rooms)
+own_rooms rooms fed reported = own_by fed rooms (recursion_from_All (IsReportedOwn fed) rooms reported)
 
 -- ---- texts
 

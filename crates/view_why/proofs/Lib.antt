@@ -9,4 +9,4 @@ mod Reasoning
 mod RoomLists
 mod RoomObjects
 mod Running
-mod Telling
+mod Reporting

@@ -10,16 +10,16 @@ use Rattle.history_checker.specs.declared.verdict.TaskVerdict.{TaskVerdict}
 use Rattle.history_checker.specs.declared.verdict.TaskVerdict.TheVariants as tasks
 use Rattle.room_files.specs.Reports.{task_line, verdict_line}
 use Rattle.room_files.specs.Verdicts.{is_well}
-use Rattle.view_why.specs.Told.{ToldRoom}
+use Rattle.view_why.specs.Reported.{ReportedRoom}
 use Rattle.view_why.specs.Why.{IsReasonFor, IsRoomSaid}
 use Rattle.view_why.proofs.Explaining.{SoFar, one_more}
 
 -- of a room that is a run and keeps its task there is nothing to explain
-nothing_to_say : (told : ToldRoom) (verdict : Verdict) (task : Option TaskVerdict) → is_well verdict task ≡ true → IsReasonFor told verdict task []
-nothing_to_say told Run None well = refl
-nothing_to_say told Run (Some tasks.Holds) well = refl
-nothing_to_say told Run (Some (tasks.Broken line)) well = absurd cc
-nothing_to_say told (Broken line) task well = absurd cc
+nothing_to_say : (reported : ReportedRoom) (verdict : Verdict) (task : Option TaskVerdict) → is_well verdict task ≡ true → IsReasonFor reported verdict task []
+nothing_to_say reported Run None well = refl
+nothing_to_say reported Run (Some tasks.Holds) well = refl
+nothing_to_say reported Run (Some (tasks.Broken line)) well = absurd cc
+nothing_to_say reported (Broken line) task well = absurd cc
 
 -- what is written of it
 pub run_said : (spec : RoomSpec) (fed : List FedEvent) (verdict : Verdict) (task : Option TaskVerdict) (name old new : List ℕ) → is_well verdict task ≡ true → IsVerdict spec fed verdict → IsTaskAnswer spec fed task → name ≡ spec.name

@@ -14,11 +14,11 @@ use Rattle.history_checker.specs.declared.reason.Reason.{Reason}
 use Rattle.history_checker.specs.declared.reason.Reason.TheVariants.{NoProcess, OtherLength, OutOfTurn, OtherAction, WrongEntry, TooManyWrites}
 use Rattle.transcript.specs.declared.event.Event.{Event}
 use Rattle.transcript.specs.declared.event.Event.TheVariants as events
-use Rattle.view_why.specs.Told.{AreDecidedBefore, IsExcess, IsLineBreak, ToldRoom}
+use Rattle.view_why.specs.Reported.{AreDecidedBefore, IsExcess, IsLineBreak, ReportedRoom}
 use Rattle.view_why.specs.Words.{shown_of}
-use Rattle.view_why.specs.declared.told.Decision.{Decision}
-use Rattle.view_why.specs.declared.told.Excess.{Excess}
-use Rattle.view_why.specs.declared.told.LineBreak.{LineBreak}
+use Rattle.view_why.specs.declared.reported.Decision.{Decision}
+use Rattle.view_why.specs.declared.reported.Excess.{Excess}
+use Rattle.view_why.specs.declared.reported.LineBreak.{LineBreak}
 
 -- ---- why an event may not come
 
@@ -67,12 +67,12 @@ break_data event broken =
     object (member (codes "event") (event_data event) (member (codes "line") (number (unsigned broken.line)) (member (codes "reason") (reason_data event broken.reason broken.earlier) no_members)))
 
 -- the first line that breaks the room's run
-pub record IsBreakData (told : ToldRoom) (line : ℕ) (it : Data) : Type 0 where
+pub record IsBreakData (reported : ReportedRoom) (line : ℕ) (it : Data) : Type 0 where
   pub broken : LineBreak
-  pub breaks : IsLineBreak told broken
+  pub breaks : IsLineBreak reported broken
   pub line_is : broken.line ≡ line
   pub event : Event
-  pub there : slice_get told.events broken.at ≡ Some event
+  pub there : slice_get reported.events broken.at ≡ Some event
   pub is : it ≡ break_data event broken
 
 -- ---- why a task doesn't allow a decision
@@ -95,15 +95,15 @@ excess_data spec line event before =
     object (member (codes "decided") (decisions_data before) (member (codes "event") (event_data event) (member (codes "input") (input_data spec event) (member (codes "line") (number (unsigned line)) no_members))))
 
 -- the first line that breaks the room's task
-pub record IsExcessData (told : ToldRoom) (line : ℕ) (it : Data) : Type 0 where
+pub record IsExcessData (reported : ReportedRoom) (line : ℕ) (it : Data) : Type 0 where
   pub excess : Excess
-  pub exceeds : IsExcess told excess
+  pub exceeds : IsExcess reported excess
   pub line_is : excess.line ≡ line
   pub event : Event
-  pub there : slice_get told.events excess.at ≡ Some event
+  pub there : slice_get reported.events excess.at ≡ Some event
   pub before : List Decision
-  pub decided : AreDecidedBefore told excess.at before
-  pub is : it ≡ excess_data told.spec line event before
+  pub decided : AreDecidedBefore reported excess.at before
+  pub is : it ≡ excess_data reported.spec line event before
 
 -- ---- a room
 

@@ -18,17 +18,17 @@ use Rattle.room_files.specs.Verdicts.{outcome_if}
 use Rattle.room_files.specs.declared.outcome.Outcome.{Outcome}
 use Rattle.room_files.specs.declared.outcome.Outcome.TheVariants.{AllWell, SomeRefused}
 use Rattle.fault_text.specs.Lines.{indented_all}
-use Rattle.view_why.specs.Told.{ToldRoom}
-use Rattle.view_why.specs.Why.{IsExplanation, told_of}
+use Rattle.view_why.specs.Reported.{ReportedRoom}
+use Rattle.view_why.specs.Why.{IsExplanation, reported_of}
 use Rattle.view_why.specs.Words.{process_words}
-use Rattle.view_why.specs.declared.told.Disallowed.{Disallowed}
+use Rattle.view_why.specs.declared.reported.Disallowed.{Disallowed}
 
 -- ---- what breaks the task
 
 -- after the event on this line, and after none before it, what was decided is not what the task allows
-pub record IsDisallowed (lines : List Tree) (told : ToldRoom) (one : Disallowed) : Type 0 where
-  pub first : IsFirstBroken lines told.spec told.events one.moment
-  pub line : slice_get told.lines one.moment.at ≡ Some one.line
+pub record IsDisallowed (lines : List Tree) (reported : ReportedRoom) (one : Disallowed) : Type 0 where
+  pub first : IsFirstBroken lines reported.spec reported.events one.moment
+  pub line : slice_get reported.lines one.moment.at ≡ Some one.line
 
 -- ---- in words
 
@@ -75,45 +75,45 @@ disallowed_in false name event one = disallowed_line name one.line ++ indented_a
 disallowed_in true name event one = json_line (decisions_data name (moment_data event one))
 
 -- the room's run keeps the task, and the text says so
-pub record IsAllowedText (json : Bool) (lines : List Tree) (told : ToldRoom) (kept : Bool) (text : List ℕ) : Type 0 where
-  pub keeps : KeepsDecisions lines told.spec told.events
-  pub text_is : text ≡ allowed_in json told.spec.name
+pub record IsAllowedText (json : Bool) (lines : List Tree) (reported : ReportedRoom) (kept : Bool) (text : List ℕ) : Type 0 where
+  pub keeps : KeepsDecisions lines reported.spec reported.events
+  pub text_is : text ≡ allowed_in json reported.spec.name
   pub kept_is : kept ≡ true
 
 -- it breaks the task, and the text says where
-pub record IsDisallowedText (json : Bool) (lines : List Tree) (told : ToldRoom) (kept : Bool) (text : List ℕ) : Type 0 where
+pub record IsDisallowedText (json : Bool) (lines : List Tree) (reported : ReportedRoom) (kept : Bool) (text : List ℕ) : Type 0 where
   pub one : Disallowed
-  pub breaks : IsDisallowed lines told one
+  pub breaks : IsDisallowed lines reported one
   pub event : Event
-  pub there : slice_get told.events one.moment.at ≡ Some event
-  pub text_is : text ≡ disallowed_in json told.spec.name event one
+  pub there : slice_get reported.events one.moment.at ≡ Some event
+  pub text_is : text ≡ disallowed_in json reported.spec.name event one
   pub kept_is : kept ≡ false
 
 -- the room's events are a run that keeps its own task
-abbrev pub IsWellRoom : ToldRoom → Type 0
-IsWellRoom told = IsRun told.spec told.events × KeepsOwnTask told.spec told.events
+abbrev pub IsWellRoom : ReportedRoom → Type 0
+IsWellRoom reported = IsRun reported.spec reported.events × KeepsOwnTask reported.spec reported.events
 
 -- of any other room nothing is said
-pub record IsNoText (told : ToldRoom) (kept : Bool) (text : List ℕ) : Type 0 where
-  pub other : IsWellRoom told → ⊥
+pub record IsNoText (reported : ReportedRoom) (kept : Bool) (text : List ℕ) : Type 0 where
+  pub other : IsWellRoom reported → ⊥
   pub text_is : text ≡ []
   pub kept_is : kept ≡ true
 
 -- what is said of a room's decisions: whether the task is kept, and if not, the first line at which it is not
-abbrev pub IsDecisionsText : Bool → List Tree → ToldRoom → Bool → List ℕ → Type 0
-IsDecisionsText json lines told kept text = (IsWellRoom told × (IsAllowedText json lines told kept text ⊎ IsDisallowedText json lines told kept text)) ⊎ IsNoText told kept text
+abbrev pub IsDecisionsText : Bool → List Tree → ReportedRoom → Bool → List ℕ → Type 0
+IsDecisionsText json lines reported kept text = (IsWellRoom reported × (IsAllowedText json lines reported kept text ⊎ IsDisallowedText json lines reported kept text)) ⊎ IsNoText reported kept text
 
 -- ---- all rooms
 
 -- a text for each room, in order; the task is kept if it is in each
-abbrev pub AreDecisionsTexts : Bool → List Tree → List ToldRoom → Bool → List (List ℕ) → Type 0
+abbrev pub AreDecisionsTexts : Bool → List Tree → List ReportedRoom → Bool → List (List ℕ) → Type 0
 AreDecisionsTexts json lines [] kept [] = kept ≡ true
-AreDecisionsTexts json lines (told ∷ rooms) kept (text ∷ texts) = (one others : Bool) × IsDecisionsText json lines told one text × AreDecisionsTexts json lines rooms others texts × (kept ≡ (one && others))
+AreDecisionsTexts json lines (reported ∷ rooms) kept (text ∷ texts) = (one others : Bool) × IsDecisionsText json lines reported one text × AreDecisionsTexts json lines rooms others texts × (kept ≡ (one && others))
 AreDecisionsTexts json lines [] kept (text ∷ texts) = ⊥
-AreDecisionsTexts json lines (told ∷ rooms) kept [] = ⊥
+AreDecisionsTexts json lines (reported ∷ rooms) kept [] = ⊥
 
 -- a text for each room was added
-pub record AddsDecisions (json : Bool) (lines : List Tree) (rooms : List ToldRoom) (kept : Bool) (before after : List ℕ) : Type 0 where
+pub record AddsDecisions (json : Bool) (lines : List Tree) (rooms : List ReportedRoom) (kept : Bool) (before after : List ℕ) : Type 0 where
   pub texts : List (List ℕ)
   pub each_room : AreDecisionsTexts json lines rooms kept texts
   pub after_is : after ≡ before ++ concat texts
@@ -132,5 +132,5 @@ pub record IsKeptExplanation (json : Bool) (lines : List Tree) (input : List ℕ
   pub first_outcome : Outcome
   pub explained : IsExplanation json input setup.rooms setup.refused fed first_outcome first
   pub kept : Bool
-  pub decisions : AddsDecisions json lines (map (λ room. told_of room fed) setup.rooms) kept first output
+  pub decisions : AddsDecisions json lines (map (λ room. reported_of room fed) setup.rooms) kept first output
   pub outcome_is : outcome ≡ with_kept first_outcome kept

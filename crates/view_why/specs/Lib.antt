@@ -1,5 +1,5 @@
 pub mod Json
 pub mod Keeping
-pub mod Told
+pub mod Reported
 pub mod Why
 pub mod Words

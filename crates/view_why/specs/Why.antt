@@ -19,12 +19,12 @@ use Rattle.fault_text.specs.Lines.{indented_all}
 use Rattle.fault_text.specs.Refusals.{refusal_line, said_refusals}
 use Rattle.json_lines.specs.Lines.{json_line}
 use Rattle.view_why.specs.Json.{IsBreakData, IsExcessData, kept_data, room_data, task_data}
-use Rattle.view_why.specs.Told.{ToldRoom, AreDecidedBefore, AreTold, IsExcess, IsLineBreak, lines_of, specs_of}
+use Rattle.view_why.specs.Reported.{ReportedRoom, AreDecidedBefore, AreReported, IsExcess, IsLineBreak, lines_of, specs_of}
 use Rattle.view_why.specs.Words.{excess_words, reason_words}
 use Rattle.fault_text.specs.declared.refusals.RefusedBlock.{RefusedBlock}
-use Rattle.view_why.specs.declared.told.Decision.{Decision}
-use Rattle.view_why.specs.declared.told.Excess.{Excess}
-use Rattle.view_why.specs.declared.told.LineBreak.{LineBreak}
+use Rattle.view_why.specs.declared.reported.Decision.{Decision}
+use Rattle.view_why.specs.declared.reported.Excess.{Excess}
+use Rattle.view_why.specs.declared.reported.LineBreak.{LineBreak}
 
 -- ---- the reason
 
@@ -33,35 +33,35 @@ abbrev pub notes_on : List ℕ → Event → LineBreak → List (List ℕ)
 notes_on name event broken = event_line name event ∷ reason_words event broken.reason broken.earlier ∷ []
 
 -- the line that breaks the run of a room, and the reason
-pub record IsBecause (told : ToldRoom) (line : ℕ) (notes : List (List ℕ)) : Type 0 where
+pub record IsBecause (reported : ReportedRoom) (line : ℕ) (notes : List (List ℕ)) : Type 0 where
   pub broken : LineBreak
-  pub breaks : IsLineBreak told broken
+  pub breaks : IsLineBreak reported broken
   pub line_is : broken.line ≡ line
   pub event : Event
-  pub there : slice_get told.events broken.at ≡ Some event
-  pub notes_are : notes ≡ notes_on told.spec.name event broken
+  pub there : slice_get reported.events broken.at ≡ Some event
+  pub notes_are : notes ≡ notes_on reported.spec.name event broken
 
 -- the line that breaks the task of a room, and why: what it decides, and which line decided each other value before it
-pub record IsExcessSaid (told : ToldRoom) (line : ℕ) (notes : List (List ℕ)) : Type 0 where
+pub record IsExcessSaid (reported : ReportedRoom) (line : ℕ) (notes : List (List ℕ)) : Type 0 where
   pub excess : Excess
-  pub exceeds : IsExcess told excess
+  pub exceeds : IsExcess reported excess
   pub line_is : excess.line ≡ line
   pub event : Event
-  pub there : slice_get told.events excess.at ≡ Some event
+  pub there : slice_get reported.events excess.at ≡ Some event
   pub before : List Decision
-  pub decided : AreDecidedBefore told excess.at before
-  pub notes_are : notes ≡ event_line told.spec.name event ∷ excess_words told.spec excess.most event before ∷ []
+  pub decided : AreDecidedBefore reported excess.at before
+  pub notes_are : notes ≡ event_line reported.spec.name event ∷ excess_words reported.spec excess.most event before ∷ []
 
 -- of a task that holds there is nothing to say
-abbrev pub IsTaskReason : ToldRoom → Option TaskVerdict → List (List ℕ) → Type 0
-IsTaskReason told None notes = notes ≡ []
-IsTaskReason told (Some tasks.Holds) notes = notes ≡ []
-IsTaskReason told (Some (tasks.Broken line)) notes = IsExcessSaid told line notes
+abbrev pub IsTaskReason : ReportedRoom → Option TaskVerdict → List (List ℕ) → Type 0
+IsTaskReason reported None notes = notes ≡ []
+IsTaskReason reported (Some tasks.Holds) notes = notes ≡ []
+IsTaskReason reported (Some (tasks.Broken line)) notes = IsExcessSaid reported line notes
 
 -- why the room is no run, or else why it breaks its task
-abbrev pub IsReasonFor : ToldRoom → Verdict → Option TaskVerdict → List (List ℕ) → Type 0
-IsReasonFor told Run task notes = IsTaskReason told task notes
-IsReasonFor told (Broken line) task notes = IsBecause told line notes
+abbrev pub IsReasonFor : ReportedRoom → Verdict → Option TaskVerdict → List (List ℕ) → Type 0
+IsReasonFor reported Run task notes = IsTaskReason reported task notes
+IsReasonFor reported (Broken line) task notes = IsBecause reported line notes
 
 -- the verdict on a room whose run breaks there, or nowhere
 abbrev pub verdict_of : Result (Unit {0}) LineBreak → Verdict
@@ -77,20 +77,20 @@ task_verdict_of (Some most) (Err excess) = Some (tasks.Broken excess.line)
 -- ---- the same as JSON
 
 -- what is said of a task that holds, or that breaks there
-abbrev pub IsTaskData : ToldRoom → Option TaskVerdict → Data → Type 0
-IsTaskData told None it = it ≡ kept_data told.spec.task
-IsTaskData told (Some tasks.Holds) it = it ≡ kept_data told.spec.task
-IsTaskData told (Some (tasks.Broken line)) it = (most : ℕ) × (told.spec.task ≡ Some most) × (why : Data) × IsExcessData told line why × (it ≡ task_data most why)
+abbrev pub IsTaskData : ReportedRoom → Option TaskVerdict → Data → Type 0
+IsTaskData reported None it = it ≡ kept_data reported.spec.task
+IsTaskData reported (Some tasks.Holds) it = it ≡ kept_data reported.spec.task
+IsTaskData reported (Some (tasks.Broken line)) it = (most : ℕ) × (reported.spec.task ≡ Some most) × (why : Data) × IsExcessData reported line why × (it ≡ task_data most why)
 
 -- a room that is a run, and what is said of its task; or what breaks it
-abbrev pub IsRoomData : ToldRoom → Verdict → Option TaskVerdict → Data → Type 0
-IsRoomData told Run task it = (of_task : Data) × IsTaskData told task of_task × (it ≡ room_data told.spec.name null of_task)
-IsRoomData told (Broken line) task it = (why : Data) × IsBreakData told line why × (it ≡ room_data told.spec.name why null)
+abbrev pub IsRoomData : ReportedRoom → Verdict → Option TaskVerdict → Data → Type 0
+IsRoomData reported Run task it = (of_task : Data) × IsTaskData reported task of_task × (it ≡ room_data reported.spec.name null of_task)
+IsRoomData reported (Broken line) task it = (why : Data) × IsBreakData reported line why × (it ≡ room_data reported.spec.name why null)
 
 -- in text why the room is no run, or breaks its task; as JSON the line that says all
-abbrev pub IsReasonIn : Bool → ToldRoom → Verdict → Option TaskVerdict → List (List ℕ) → Type 0
-IsReasonIn false told verdict task notes = IsReasonFor told verdict task notes
-IsReasonIn true told verdict task notes = (it : Data) × IsRoomData told verdict task it × (notes ≡ json_line it ∷ [])
+abbrev pub IsReasonIn : Bool → ReportedRoom → Verdict → Option TaskVerdict → List (List ℕ) → Type 0
+IsReasonIn false reported verdict task notes = IsReasonFor reported verdict task notes
+IsReasonIn true reported verdict task notes = (it : Data) × IsRoomData reported verdict task it × (notes ≡ json_line it ∷ [])
 
 -- ---- the answer
 
@@ -100,12 +100,12 @@ pub record Explained : Type 0 where
   pub notes : List (List ℕ)
 
 -- what a transcript says of a room
-abbrev pub told_of : RoomSpec → List FedEvent → ToldRoom
-told_of room fed = record { spec = room; events = events_of (fed_to room.name fed); lines = lines_of (fed_to room.name fed) }
+abbrev pub reported_of : RoomSpec → List FedEvent → ReportedRoom
+reported_of room fed = record { spec = room; events = events_of (fed_to room.name fed); lines = lines_of (fed_to room.name fed) }
 
 -- what `check` answers on the room, and why it is no run, or breaks its task
 abbrev pub IsExplained : Bool → List FedEvent → Explained → Type 0
-IsExplained json fed one = IsJustified fed one.judged × IsReasonIn json (told_of one.judged.room fed) one.judged.verdict one.judged.task one.notes
+IsExplained json fed one = IsJustified fed one.judged × IsReasonIn json (reported_of one.judged.room fed) one.judged.verdict one.judged.task one.notes
 
 -- the verdict and what is said of it; as JSON all is in the line
 abbrev pub said_lines : Bool → RoomSpec → Verdict → Option TaskVerdict → List (List ℕ) → List ℕ
@@ -116,10 +116,10 @@ abbrev pub explained_lines : Bool → Explained → List ℕ
 explained_lines json one = said_lines json one.judged.room one.judged.verdict one.judged.task one.notes
 
 -- what is written of a room after a text, if that breaks its run and that its task
-abbrev pub IsSaid : Bool → ToldRoom → Result (Unit {0}) LineBreak → Result (Unit {0}) Excess → List ℕ → List ℕ → Type 0
-IsSaid json told reason excess old new =
-    (notes : List (List ℕ)) × IsReasonIn json told (verdict_of reason) (task_verdict_of told.spec.task excess) notes
-    × (new ≡ old ++ said_lines json told.spec (verdict_of reason) (task_verdict_of told.spec.task excess) notes)
+abbrev pub IsSaid : Bool → ReportedRoom → Result (Unit {0}) LineBreak → Result (Unit {0}) Excess → List ℕ → List ℕ → Type 0
+IsSaid json reported reason excess old new =
+    (notes : List (List ℕ)) × IsReasonIn json reported (verdict_of reason) (task_verdict_of reported.spec.task excess) notes
+    × (new ≡ old ++ said_lines json reported.spec (verdict_of reason) (task_verdict_of reported.spec.task excess) notes)
 
 -- what is written of a room after a text, and whether all is well with it
 pub record IsRoomSaid (json : Bool) (spec : RoomSpec) (fed : List FedEvent) (old new : List ℕ) (well : Bool) : Type 0 where
@@ -149,13 +149,13 @@ pub record IsExplanation (json : Bool) (input : List ℕ) (rooms : List RoomSpec
   pub checked : IsOutput rooms refused fed outcome (refused ++ flat_map judged_line (map (λ one. one.judged) all))
 
 -- these rooms, with what the input says of each, and these refused blocks
-pub record AreHeard (input : List ℕ) (rooms : List ToldRoom) (refusals : List RefusedBlock) : Type 0 where
+pub record AreHeard (input : List ℕ) (rooms : List ReportedRoom) (refusals : List RefusedBlock) : Type 0 where
   pub setup : Setup
   pub fed : List FedEvent
   pub says : input_says input ≡ Ok (setup, fed)
   pub rooms_are : specs_of rooms ≡ setup.rooms
   pub refused_are : flat_map refusal_line refusals ≡ setup.refused
-  pub told : AreTold rooms fed
+  pub reported : AreReported rooms fed
 
 abbrev pub IsExplanationIn : Bool → List ℕ → Outcome → List ℕ → Type 0
 IsExplanationIn json input outcome output =

@@ -12,7 +12,7 @@ use Rattle.history_checker.specs.declared.reason.Reason.TheVariants.{NoProcess, 
 use Rattle.transcript.specs.declared.event.Event.{Event}
 use Rattle.transcript.specs.declared.event.Event.TheVariants as events
 use Rattle.transcript.specs.Runs.{process_of}
-use Rattle.view_why.specs.declared.told.Decision.{Decision}
+use Rattle.view_why.specs.declared.reported.Decision.{Decision}
 
 -- what an event shows of process q
 abbrev pub shown_of : Event → ℕ → Option ℕ

@@ -7,7 +7,7 @@ ghost use Rattle.room_files.specs.Blocks.{IsFaultOr};
 ghost use Rattle.room_files.specs.Inputs.{MayLackMemory, input_says};
 ghost use Rattle.transcript.specs.Grammar.{event_line};
 ghost use Rattle.view_why.specs.Keeping.{IsKeptExplanation};
-ghost use Rattle.view_why.specs.Told.{AreTold, IsExcess, IsLineBreak, IsTold, specs_of};
+ghost use Rattle.view_why.specs.Reported.{AreReported, IsExcess, IsLineBreak, IsReported, specs_of};
 ghost use Rattle.fault_text.specs.Lines.{indented, indented_all};
 ghost use Rattle.fault_text.specs.Refusals.{refusal_line};
 ghost use Rattle.view_why.specs.Why.{AreHeard, IsBecause, IsExcessSaid, IsExplanation, IsExplanationFor, IsExplanationIn, IsJsonExplanationFor, IsReasonFor, IsRoomSaid, IsSaid, IsTaskReason, refusals_shown, task_verdict_of, verdict_of};
@@ -16,9 +16,9 @@ use crate::excess::write_excess_words;
 use crate::keeping::{with_kept, write_kept};
 use crate::objects::write_object;
 use crate::reasons::write_reason;
-use crate::rooms::ToldRooms;
+use crate::reported::{Excess, LineBreak, Reported};
+use crate::rooms::ReportedRooms;
 use crate::runs::explain_runs;
-use crate::told::{Excess, LineBreak, Told};
 use decision_tasks::DecisionTask;
 use fault_text::{Refusals, write_indented};
 use history_checker::{TaskVerdict, Verdict};
@@ -64,7 +64,7 @@ pub fn explain_kept(
     ensures output { IfOk result (λ answer. IsKeptExplanation json task.now input.now answer.outcome answer.output) }
     ensures err { IfErr result (IsFaultOr (MayLackMemory input.now) (input_says input.now)) }
 {
-    let (rooms, refusals) = told_rooms(alloc, input)?;
+    let (rooms, refusals) = reported_rooms(alloc, input)?;
     let Answer {
         mut output,
         outcome,
@@ -82,17 +82,17 @@ fn explain_rooms(alloc: Global, input: &[u8], json: bool) -> Result<Answer, Inpu
     ensures output { IfOk result (λ answer. IsExplanationIn json input.now answer.outcome answer.output) }
     ensures err { IfErr result (IsFaultOr (MayLackMemory input.now) (input_says input.now)) }
 {
-    let (rooms, refusals) = told_rooms(alloc, input)?;
+    let (rooms, refusals) = reported_rooms(alloc, input)?;
     Ok(answer_of(alloc, input, json, &rooms, &refusals)?)
 }
 
 /// The rooms of an input, each with its events, and the refused blocks.
-fn told_rooms(alloc: Global, input: &[u8]) -> Result<(ToldRooms, Refusals), InputFault>
+fn reported_rooms(alloc: Global, input: &[u8]) -> Result<(ReportedRooms, Refusals), InputFault>
     requires { length input.now ≤ most_bytes }
-    ensures told { IfOk result (λ told. AreHeard input.now told.0 told.1) }
+    ensures reported { IfOk result (λ reported. AreHeard input.now reported.0 reported.1) }
     ensures err { IfErr result (IsFaultOr (MayLackMemory input.now) (input_says input.now)) }
 {
-    let setup = Setup::new(ToldRooms::new(alloc), Refusals::new(alloc));
+    let setup = Setup::new(ReportedRooms::new(alloc), Refusals::new(alloc));
     let (setup, transcript) = read_blocks(alloc, setup, input)?;
     let Setup {
         mut rooms,
@@ -108,17 +108,17 @@ fn answer_of(
     alloc: Global,
     input: &[u8],
     json: bool,
-    rooms: &ToldRooms,
+    rooms: &ReportedRooms,
     refusals: &Refusals,
 ) -> Result<Answer, AllocError>
-    ensures { IfOk result (λ answer. (fed : List FedEvent) → AreTold rooms.now fed →
+    ensures { IfOk result (λ answer. (fed : List FedEvent) → AreReported rooms.now fed →
         IsExplanation json input.now (specs_of rooms.now) (flat_map refusal_line refusals.now) fed answer.outcome answer.output) }
 {
     let mut output = Text::new(alloc);
     write_refusals(alloc, &mut output, input, json, refusals)?;
     let mut all_well = refusals.is_empty();
-    for told in rooms.iter() {
-        all_well &= write_room(alloc, &mut output, json, told)?;
+    for reported in rooms.iter() {
+        all_well &= write_room(alloc, &mut output, json, reported)?;
     }
     Ok(Answer {
         output,
@@ -143,14 +143,19 @@ fn write_refusals(
 }
 
 /// Writes what is said of a room. Gives whether its events are a run that doesn't break its task.
-fn write_room(alloc: Global, output: &mut Text, json: bool, told: &Told) -> Result<bool, AllocError>
-    ensures { IfOk result (λ well. (fed : List FedEvent) → IsTold fed told.now → IsRoomSaid json told.now.spec fed output.old output.new well) }
+fn write_room(
+    alloc: Global,
+    output: &mut Text,
+    json: bool,
+    reported: &Reported,
+) -> Result<bool, AllocError>
+    ensures { IfOk result (λ well. (fed : List FedEvent) → IsReported fed reported.now → IsRoomSaid json reported.now.spec fed output.old output.new well) }
 {
-    let reason = told.why();
-    let excess = told.excess();
+    let reason = reported.why();
+    let excess = reported.excess();
     let verdict = verdict_of(reason);
-    let task = task_verdict_of(&told.spec, excess);
-    write_said(alloc, output, json, told, reason, excess)?;
+    let task = task_verdict_of(&reported.spec, excess);
+    write_said(alloc, output, json, reported, reason, excess)?;
     Ok(is_well(verdict, task))
 }
 
@@ -159,38 +164,38 @@ fn write_said(
     alloc: Global,
     output: &mut Text,
     json: bool,
-    told: &Told,
+    reported: &Reported,
     reason: Result<(), LineBreak>,
     excess: Result<(), Excess>,
 ) -> Result<(), AllocError>
-    requires run { IfErr reason (IsLineBreak told.now) }
-    requires task { IfErr excess (IsExcess told.now) }
-    ensures { OnOk result (IsSaid json told.now reason excess output.old output.new) }
+    requires run { IfErr reason (IsLineBreak reported.now) }
+    requires task { IfErr excess (IsExcess reported.now) }
+    ensures { OnOk result (IsSaid json reported.now reason excess output.old output.new) }
 {
     if json {
-        return write_object(alloc, output, told, reason, excess);
+        return write_object(alloc, output, reported, reason, excess);
     }
-    write_text(alloc, output, told, reason, excess)
+    write_text(alloc, output, reported, reason, excess)
 }
 
 /// Writes the verdict on a room, and why.
 fn write_text(
     alloc: Global,
     output: &mut Text,
-    told: &Told,
+    reported: &Reported,
     reason: Result<(), LineBreak>,
     excess: Result<(), Excess>,
 ) -> Result<(), AllocError>
-    requires run { IfErr reason (IsLineBreak told.now) }
-    requires task { IfErr excess (IsExcess told.now) }
-    ensures { OnOk result (IsSaid false told.now reason excess output.old output.new) }
+    requires run { IfErr reason (IsLineBreak reported.now) }
+    requires task { IfErr excess (IsExcess reported.now) }
+    ensures { OnOk result (IsSaid false reported.now reason excess output.old output.new) }
 {
     let verdict = verdict_of(reason);
-    let task = task_verdict_of(&told.spec, excess);
-    let name = told.spec.name();
+    let task = task_verdict_of(&reported.spec, excess);
+    let name = reported.spec.name();
     write_verdict(output, name, verdict)?;
     write_task(output, name, verdict, task)?;
-    write_reasons(alloc, output, told, reason, excess)?;
+    write_reasons(alloc, output, reported, reason, excess)?;
     Ok(())
 }
 
@@ -219,17 +224,17 @@ fn task_verdict_of(spec: &Spec, excess: Result<(), Excess>) -> Option<TaskVerdic
 fn write_reasons(
     alloc: Global,
     output: &mut Text,
-    told: &Told,
+    reported: &Reported,
     reason: Result<(), LineBreak>,
     excess: Result<(), Excess>,
 ) -> Result<(), AllocError>
-    requires run { IfErr reason (IsLineBreak told.now) }
-    requires task { IfErr excess (IsExcess told.now) }
-    ensures { OnOk result ((notes : List (List ℕ)) × IsReasonFor told.now (verdict_of reason) (task_verdict_of told.now.spec.task excess) notes × (output.new ≡ output.old ++ indented_all notes)) }
+    requires run { IfErr reason (IsLineBreak reported.now) }
+    requires task { IfErr excess (IsExcess reported.now) }
+    ensures { OnOk result ((notes : List (List ℕ)) × IsReasonFor reported.now (verdict_of reason) (task_verdict_of reported.now.spec.task excess) notes × (output.new ≡ output.old ++ indented_all notes)) }
 {
     match reason {
-        Ok(()) => write_excess_if(alloc, output, told, excess),
-        Err(broken) => write_because(alloc, output, told, broken),
+        Ok(()) => write_excess_if(alloc, output, reported, excess),
+        Err(broken) => write_because(alloc, output, reported, broken),
     }
 }
 
@@ -237,14 +242,14 @@ fn write_reasons(
 fn write_because(
     alloc: Global,
     output: &mut Text,
-    told: &Told,
+    reported: &Reported,
     broken: LineBreak,
 ) -> Result<(), AllocError>
-    requires { IsLineBreak told.now broken }
-    ensures { OnOk result ((notes : List (List ℕ)) × IsBecause told.now broken.line notes × (output.new ≡ output.old ++ indented_all notes)) }
+    requires { IsLineBreak reported.now broken }
+    ensures { OnOk result ((notes : List (List ℕ)) × IsBecause reported.now broken.line notes × (output.new ≡ output.old ++ indented_all notes)) }
 {
-    let event = told.event(broken.at);
-    write_event_line(alloc, output, told, event)?;
+    let event = reported.event(broken.at);
+    write_event_line(alloc, output, reported, event)?;
     output.put(b"    ")?;
     write_reason(output, event, broken.reason, broken.earlier)?;
     output.put(b"\n")
@@ -254,32 +259,38 @@ fn write_because(
 fn write_excess_if(
     alloc: Global,
     output: &mut Text,
-    told: &Told,
+    reported: &Reported,
     excess: Result<(), Excess>,
 ) -> Result<(), AllocError>
-    requires { IfErr excess (IsExcess told.now) }
-    ensures { OnOk result ((notes : List (List ℕ)) × IsTaskReason told.now (task_verdict_of told.now.spec.task excess) notes × (output.new ≡ output.old ++ indented_all notes)) }
+    requires { IfErr excess (IsExcess reported.now) }
+    ensures { OnOk result ((notes : List (List ℕ)) × IsTaskReason reported.now (task_verdict_of reported.now.spec.task excess) notes × (output.new ≡ output.old ++ indented_all notes)) }
 {
     match excess {
         Ok(()) => Ok(()),
-        Err(excess) => write_excess(alloc, output, told, excess),
+        Err(excess) => write_excess(alloc, output, reported, excess),
     }
 }
 
 fn write_excess(
     alloc: Global,
     output: &mut Text,
-    told: &Told,
+    reported: &Reported,
     excess: Excess,
 ) -> Result<(), AllocError>
-    requires { IsExcess told.now excess }
-    ensures { OnOk result ((notes : List (List ℕ)) × IsExcessSaid told.now excess.line notes × (output.new ≡ output.old ++ indented_all notes)) }
+    requires { IsExcess reported.now excess }
+    ensures { OnOk result ((notes : List (List ℕ)) × IsExcessSaid reported.now excess.line notes × (output.new ≡ output.old ++ indented_all notes)) }
 {
-    let event = told.event(excess.at);
-    write_event_line(alloc, output, told, event)?;
-    let before = told.decided_before(alloc, excess.at)?;
+    let event = reported.event(excess.at);
+    write_event_line(alloc, output, reported, event)?;
+    let before = reported.decided_before(alloc, excess.at)?;
     output.put(b"    ")?;
-    write_excess_words(output, &told.spec, excess.most, event, before.as_slice())?;
+    write_excess_words(
+        output,
+        &reported.spec,
+        excess.most,
+        event,
+        before.as_slice(),
+    )?;
     output.put(b"\n")
 }
 
@@ -287,11 +298,11 @@ fn write_excess(
 pub(crate) fn write_event_line(
     alloc: Global,
     output: &mut Text,
-    told: &Told,
+    reported: &Reported,
     event: &Event,
 ) -> Result<(), AllocError>
-    ensures { OnOk result (output.new ≡ output.old ++ indented (event_line told.now.spec.name event.now)) }
+    ensures { OnOk result (output.new ≡ output.old ++ indented (event_line reported.now.spec.name event.now)) }
 {
-    let line = write_event(alloc, told.spec.name(), event)?;
+    let line = write_event(alloc, reported.spec.name(), event)?;
     write_indented(output, &line)
 }

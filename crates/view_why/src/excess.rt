@@ -4,7 +4,7 @@ ghost use Rattle.std.specs.List.{flat_map};
 ghost use Rattle.view_why.specs.Words.{allowed_words, decision_words, excess_why, excess_words};
 
 use crate::reasons::write_of_process;
-use crate::told::Decision;
+use crate::reported::Decision;
 use io_text::Text;
 use room_spec::Spec;
 use std::alloc::AllocError;

@@ -7,7 +7,7 @@ ghost use Rattle.json_lines.specs.Values.{entry_data};
 ghost use Rattle.history_checker.specs.declared.reason.Reason.TheVariants.{WrongEntry};
 
 use crate::reasons::shown_of;
-use crate::told::{Decision, LineBreak};
+use crate::reported::{Decision, LineBreak};
 use history_checker::{LastWrite, Reason, Turn};
 use json_lines::{entry_value, event_value};
 use protocol_lang::Action;

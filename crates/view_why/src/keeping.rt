@@ -5,8 +5,8 @@ ghost use Rattle.view_why.specs.Keeping.{AddsDecisions, IsDecisionsText, IsDisal
 
 use crate::kept_json::{write_allowed_object, write_disallowed_object};
 use crate::kept_text::{write_allowed_line, write_disallowed_lines};
-use crate::rooms::ToldRooms;
-use crate::told::{Disallowed, Told};
+use crate::reported::{Disallowed, Reported};
+use crate::rooms::ReportedRooms;
 use decision_tasks::DecisionTask;
 use io_text::Text;
 use room_files::{Outcome, outcome_if};
@@ -18,13 +18,13 @@ pub fn write_kept(
     output: &mut Text,
     json: bool,
     task: &DecisionTask,
-    rooms: &ToldRooms,
+    rooms: &ReportedRooms,
 ) -> Result<bool, AllocError>
     ensures { IfOk result (λ kept. AddsDecisions json task.now rooms.now kept output.old output.new) }
 {
     let mut kept = true;
-    for told in rooms.iter() {
-        kept &= write_decisions(alloc, output, json, task, told)?;
+    for reported in rooms.iter() {
+        kept &= write_decisions(alloc, output, json, task, reported)?;
     }
     Ok(kept)
 }
@@ -45,20 +45,20 @@ fn write_decisions(
     output: &mut Text,
     json: bool,
     task: &DecisionTask,
-    told: &Told,
+    reported: &Reported,
 ) -> Result<bool, AllocError>
-    ensures { IfOk result (λ kept. (text : List ℕ) × IsDecisionsText json task.now told.now kept text × (output.new ≡ output.old ++ text)) }
+    ensures { IfOk result (λ kept. (text : List ℕ) × IsDecisionsText json task.now reported.now kept text × (output.new ≡ output.old ++ text)) }
 {
-    if !told.is_well() {
+    if !reported.is_well() {
         return Ok(true);
     }
-    match told.disallowed(task) {
+    match reported.disallowed(task) {
         None => {
-            write_allowed(alloc, output, json, told)?;
+            write_allowed(alloc, output, json, reported)?;
             Ok(true)
         }
         Some(one) => {
-            write_disallowed(alloc, output, json, told, &one)?;
+            write_disallowed(alloc, output, json, reported, &one)?;
             Ok(false)
         }
     }
@@ -69,11 +69,11 @@ fn write_allowed(
     alloc: Global,
     output: &mut Text,
     json: bool,
-    told: &Told,
+    reported: &Reported,
 ) -> Result<(), AllocError>
-    ensures { OnOk result (output.new ≡ output.old ++ allowed_in json told.now.spec.name) }
+    ensures { OnOk result (output.new ≡ output.old ++ allowed_in json reported.now.spec.name) }
 {
-    let name = told.spec.name().as_str();
+    let name = reported.spec.name().as_str();
     if json {
         return write_allowed_object(alloc, output, name);
     }
@@ -85,16 +85,16 @@ fn write_disallowed(
     alloc: Global,
     output: &mut Text,
     json: bool,
-    told: &Told,
+    reported: &Reported,
     one: &Disallowed,
 ) -> Result<(), AllocError>
-    requires { (event : EventValue) × (slice_get told.now.events one.now.moment.at ≡ Some event) }
-    ensures { OnOk result ((event : EventValue) × (slice_get told.now.events one.now.moment.at ≡ Some event) × (output.new ≡ output.old ++ disallowed_in json told.now.spec.name event one.now)) }
+    requires { (event : EventValue) × (slice_get reported.now.events one.now.moment.at ≡ Some event) }
+    ensures { OnOk result ((event : EventValue) × (slice_get reported.now.events one.now.moment.at ≡ Some event) × (output.new ≡ output.old ++ disallowed_in json reported.now.spec.name event one.now)) }
 {
-    let event = told.event(one.moment.at);
+    let event = reported.event(one.moment.at);
     if json {
-        let name = told.spec.name().as_str();
+        let name = reported.spec.name().as_str();
         return write_disallowed_object(alloc, output, name, event, one);
     }
-    write_disallowed_lines(alloc, output, told, event, one)
+    write_disallowed_lines(alloc, output, reported, event, one)
 }

@@ -6,7 +6,7 @@ ghost use Rattle.json_lines.specs.Lines.{json_line};
 ghost use Rattle.json_lines.specs.Values.{row_data};
 ghost use Rattle.view_why.specs.Keeping.{allowed_in, broken_data, decisions_data, disallowed_in, moment_data};
 
-use crate::told::Disallowed;
+use crate::reported::Disallowed;
 use io_text::Text;
 use json_lines::{entry_value, event_value, write_line};
 use serde_json::{Value, json};

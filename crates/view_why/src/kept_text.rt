@@ -4,7 +4,7 @@ ghost use Rattle.view_why.specs.Keeping.{allowed_in, decider_words, deciders_wor
 
 use crate::answer::write_event_line;
 use crate::reasons::write_of_process;
-use crate::told::{Disallowed, Told};
+use crate::reported::{Disallowed, Reported};
 use decision_tasks::Moment;
 use io_text::Text;
 use std::alloc::{AllocError, Global};
@@ -21,15 +21,15 @@ pub(crate) fn write_allowed_line(output: &mut Text, name: &[u8]) -> Result<(), A
 pub(crate) fn write_disallowed_lines(
     alloc: Global,
     output: &mut Text,
-    told: &Told,
+    reported: &Reported,
     event: &Event,
     one: &Disallowed,
 ) -> Result<(), AllocError>
-    ensures { OnOk result (output.new ≡ output.old ++ disallowed_in false told.now.spec.name event.now one.now) }
+    ensures { OnOk result (output.new ≡ output.old ++ disallowed_in false reported.now.spec.name event.now one.now) }
 {
-    let name = told.spec.name().as_str().as_bytes();
+    let name = reported.spec.name().as_str().as_bytes();
     write_disallowed_line(output, name, one.line)?;
-    write_event_line(alloc, output, told, event)?;
+    write_event_line(alloc, output, reported, event)?;
     output.put(b"    ")?;
     write_moment(output, &one.moment)?;
     output.put(b"\n")

@@ -9,8 +9,8 @@ mod kept_json;
 mod kept_text;
 mod objects;
 mod reasons;
+mod reported;
 mod rooms;
 mod runs;
-mod told;
 
 pub use answer::{explain, explain_json, explain_kept};

@@ -1,9 +1,9 @@
 //! The rooms of a transcript, each with what it says of them.
 ghost use Rattle.std.specs.Prelude.{◌≡◌, ◌∷◌, ◌++◌, [], IsFalse, OnErr, OnOk};
 ghost use Rattle.history_checker.specs.Verdicts.{has_room};
-ghost use Rattle.view_why.specs.Told.{AreTold, specs_of};
+ghost use Rattle.view_why.specs.Reported.{AreReported, specs_of};
 
-use crate::told::Told;
+use crate::reported::Reported;
 use indexmap::IndexMap;
 use indexmap::map::Values;
 use room_files::{InputFault, Opens, TakesEvents, TextFault};
@@ -14,17 +14,17 @@ use transcript::EventLine;
 
 /// Rooms in order of adding, each with its events in a transcript.
 #[derive(Drop)]
-pub struct ToldRooms {
-    rooms: IndexMap<Name, Told>,
+pub struct ReportedRooms {
+    rooms: IndexMap<Name, Reported>,
 }
 
-impl Model for ToldRooms {
+impl Model for ReportedRooms {
     ghost use Rattle.std.specs.Coded.{codes};
     ghost use Rattle.protocol_lang.specs.Codes.{expression_code};
     ghost use Rattle.std.specs.Prelude.{List};
-    ghost use Rattle.view_why.specs.Told.{ToldRoom, rooms_in, IsKeyed};
+    ghost use Rattle.view_why.specs.Reported.{ReportedRoom, rooms_in, IsKeyed};
 
-    ghost Value = { List ToldRoom };
+    ghost Value = { List ReportedRoom };
 
     ghost coded = { Prim.hlevel (codes, expression_code) };
 
@@ -33,12 +33,12 @@ impl Model for ToldRooms {
     ghost invariant = { λ all. IsKeyed all.rooms.entries };
 }
 
-impl ToldRooms {
+impl ReportedRooms {
     /// No rooms.
-    pub fn new(alloc: Global) -> ToldRooms
+    pub fn new(alloc: Global) -> ReportedRooms
         ensures { result ≡ [] }
     {
-        ToldRooms {
+        ReportedRooms {
             rooms: IndexMap::new(alloc),
         }
     }
@@ -54,46 +54,46 @@ impl ToldRooms {
     fn push(&mut self, alloc: Global, spec: Spec) -> Result<(), AllocError>
         requires { IsFalse (has_room spec.name (specs_of self.now)) }
         ensures added { OnOk result (specs_of self.new ≡ specs_of self.old ++ spec ∷ []) }
-        ensures untold { OnOk result (AreTold self.old [] → AreTold self.new []) }
+        ensures unreported { OnOk result (AreReported self.old [] → AreReported self.new []) }
         ensures err { OnErr result (self.new ≡ self.old) }
     {
         let name = spec.name().clone()?;
-        self.rooms.insert(name, Told::of(alloc, spec))?;
+        self.rooms.insert(name, Reported::of(alloc, spec))?;
         Ok(())
     }
 
     /// The rooms, in order of adding.
-    pub fn iter(&self) -> Values<'_, Name, Told>
+    pub fn iter(&self) -> Values<'_, Name, Reported>
         ensures { result ≡ self.now }
     {
         self.rooms.values()
     }
 }
 
-impl Opens for ToldRooms {
+impl Opens for ReportedRooms {
     ghost use Rattle.std.specs.Prelude.{[]};
-    ghost use Rattle.view_why.specs.Told.{AreTold, specs_of};
+    ghost use Rattle.view_why.specs.Reported.{AreReported, specs_of};
 
     ghost specs = { specs_of };
 
-    ghost is_unfed = { λ rooms. AreTold rooms [] };
+    ghost is_unfed = { λ rooms. AreReported rooms [] };
 
     fn has(&self, name: &Name) -> bool {
-        ToldRooms::has(self, name)
+        ReportedRooms::has(self, name)
     }
 
     fn push(&mut self, alloc: Global, spec: Spec, _block: &[u8]) -> Result<(), AllocError> {
-        ToldRooms::push(self, alloc, spec)
+        ReportedRooms::push(self, alloc, spec)
     }
 }
 
-impl TakesEvents for ToldRooms {
+impl TakesEvents for ReportedRooms {
     ghost use Rattle.std.specs.Prelude.{◌≢◌, []};
-    ghost use Rattle.view_why.specs.Told.{AreTold, specs_of};
+    ghost use Rattle.view_why.specs.Reported.{AreReported, specs_of};
 
     ghost specs = { specs_of };
 
-    ghost has_taken = { AreTold };
+    ghost has_taken = { AreReported };
 
     // Only an event of a room is kept.
     ghost takes_memory = { λ rooms. rooms ≢ [] };

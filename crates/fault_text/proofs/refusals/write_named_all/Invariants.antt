@@ -1,11 +1,11 @@
 use Rattle.std.proofs.Common.{◌≡◌, ◌++◌, take}
 use Rattle.std.specs.List.{flat_map}
-use Rattle.fault_text.specs.Lines.{behind_lines, from_line}
+use Rattle.fault_text.specs.Lines.{lines_after, from_line}
 use Rattle.fault_text.specs.Refusals.{named_if}
 use Rattle.fault_text.proofs.refusals.write_named_all.Given as goal
 
 -- what is left stands behind the lines that were passed
 abbrev pub invariant-loop-refusal : goal.invariant-loop-refusal
 invariant-loop-refusal l =
-    (l.rest ≡ behind_lines l.passed l.input)
+    (l.rest ≡ lines_after l.passed l.input)
     × (l.output ≡ l.initial.output ++ flat_map (λ refusal. named_if l.name (from_line refusal.line l.input) refusal.line) (take l.refusal-index l.refusals))

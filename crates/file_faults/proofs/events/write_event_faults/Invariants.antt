@@ -5,7 +5,7 @@ use Rattle.file_faults.proofs.events.write_event_faults.Given as goal
 
 -- what is said so far, and what is said of the rest
 abbrev pub invariant-walk : goal.invariant-walk
-invariant-walk l = (most : ℕ) × (length l.rest ≤ most) × (l.output ++ said_from (event_lines l.format.json l.opened) most l.left l.strangers l.number l.rest ≡ l.initial.output ++ events_said l.format.json l.opened l.first l.transcript)
+invariant-walk l = (most : ℕ) × (length l.rest ≤ most) × (l.output ++ said_from (event_lines l.format.json l.opened) most l.left l.unknown_names l.number l.rest ≡ l.initial.output ++ events_said l.format.json l.opened l.first l.transcript)
 
 abbrev pub decreases-walk : goal.decreases-walk
 decreases-walk l = length l.rest

@@ -9,8 +9,8 @@ walk-preserved c =
     let inv = c.walk.invariant in
     let rest = c.walk.rest.now in
     let some = some_left c.is_empty.result rest c.is_empty.ensures c.walk-test.true in
-    walk_step (file_parts c.args.json) inv.0 c.walk.left c.walk.number c.next_part-number.result tt tt rest c.part_behind-rest.result.now c.walk.output (warnings_said c.args.json c.args.input.now) c.write_first.new.output c.in-Some.fewer
-    inv.1 some (c.part_behind-rest.ensures.shorter some) c.next_part-number.ensures c.part_behind-rest.ensures.text refl
+    walk_step (file_parts c.args.json) inv.0 c.walk.left c.walk.number c.next_part-number.result tt tt rest c.part_after-rest.result.now c.walk.output (warnings_said c.args.json c.args.input.now) c.write_first.new.output c.in-Some.fewer
+    inv.1 some (c.part_after-rest.ensures.shorter some) c.next_part-number.ensures c.part_after-rest.ensures.text refl
     inv.2 (sym c.in-Some.is ∙ c.in_ok-fewer.ensures.left) c.in_ok-fewer.ensures.text
 
 pub returns-in_default : goal.returns-in_default

@@ -1,19 +1,10 @@
-use Rattle.std.proofs.Common.{◌∙◌, Ok, ap, subst, sym}
-use Rattle.rand_core.specs.Stream.{Stream}
+use Rattle.std.proofs.Common.{Ok}
 use Rattle.room_sample.specs.Chances.{random_in}
-use Rattle.room_sample.specs.Drawn.{IsLed, Way, active_from, sets_out}
 use Rattle.room_sample.specs.Ways.{way_of}
-use Rattle.room_sample.specs.declared.active.Style.{Style}
 use Rattle.room_sample.proofs.Drawing.{run_from}
 use Rattle.room_sample.proofs.run.run_by_chance.Goals as goal
 
 pub returns : goal.returns
 returns c =
-    let random = random_in c.args.chances.now in
-    let active = c.all_active-active.result.items in
-    let later = random_in c.all_active-active.new.chances in
-    let drawn = c.all_active-active.ensures ∙ ap (λ (p : Style × Stream). active_from c.args.spec p.0 c.args.spec.simulators p.1) c.random_style-style.ensures.drawn in
-    let same = ap (λ (p : Style × Stream). p.0) c.random_style-style.ensures.drawn in
-    let out = subst (λ (way : Way). IsLed c.args.spec c.args.crashes random 0 way active later) (sym c.in_ok-scheduled.ensures) (sets_out active later drawn) in
-    run_from c.args.spec c.args.crashes random (way_of c.act_by_chance.new.scheduled) (Ok c.settled.result) c.settled.ensures.schedule c.settled.ensures.states
-    (c.in_ok-act_by_chance.ensures c.args.spec c.args.crashes random same out)
+    run_from c.args.spec c.args.crashes (random_in c.args.chances.now) (way_of c.in_ok-scheduled.scheduled) (Ok c.settled.result) c.settled.ensures.schedule c.settled.ensures.states
+    c.in_ok-scheduled.ensures

@@ -7,8 +7,8 @@ use Rattle.scheduler.proofs.opening.deal.Given as goal
 
 abbrev pub invariant-loop-i : goal.invariant-loop-i
 invariant-loop-i l = record {
-  keeper : l.keeper ≡ keeper_after l.room l.i;
+  keeper : l.keeper ≡ keeper_after l.fresh.room.now l.i;
   next : (l.next < length l.queues.items) × (length l.queues.items ≡ length l.initial.queues.items);
-  tasks : (rooms : List RoomName) → slice_get rooms l.place ≡ Some l.room → AreTasksOf rooms (map (λ queue. queue.items) l.initial.queues.items) → AreTasksOf rooms (map (λ queue. queue.items) l.queues.items);
-  away : (k i : ℕ) → waiting k i (map (λ queue. queue.items) l.queues.items) ≡ waiting k i (map (λ queue. queue.items) l.initial.queues.items) + away_at l.place l.keeper.sweeps k i;
+  tasks : (rooms : List RoomName) → slice_get rooms l.fresh.place ≡ Some l.fresh.room.now → AreTasksOf rooms (map (λ queue. queue.items) l.initial.queues.items) → AreTasksOf rooms (map (λ queue. queue.items) l.queues.items);
+  away : (k i : ℕ) → waiting k i (map (λ queue. queue.items) l.queues.items) ≡ waiting k i (map (λ queue. queue.items) l.initial.queues.items) + away_at l.fresh.place l.keeper.sweeps k i;
 }

@@ -31,14 +31,14 @@ loop-room-preserved g c =
       home = one.others_home;
       runs = (
         runs.0 ++ spec_of c.in-Some.room ∷ [],
-        specs_more spec_of (map spec_of c.args.rooms.items) runs.0 (into_iter_items c.loop-room.rooms) (into_iter_items c.next.new.self) c.in-Some.room c.in-Some.ensures.items runs.1,
+        specs_more spec_of (map spec_of c.args.stopped.rooms.items) runs.0 (into_iter_items c.loop-room.rooms) (into_iter_items c.next.new.self) c.in-Some.room c.in-Some.ensures.items runs.1,
         adds_one runs.0 (spec_of c.in-Some.room) c.in_ok-finish.field-0 (has c.args.gathered) (has c.loop-room.all) (has c.add.new.self) c.in_ok-finish.ensures c.in_ok-add.ensures runs.2,
       );
     }
 
 pub loop-room-init : goal.loop-room-init
 loop-room-init g c = record {
-  kept = subst (λ (l : List KeeperData). AreKept (into_iter_items c.into_iter-rooms.result) l) (sym c.into_iter-keepers.ensures.rest) (subst (λ (l : List RoomName). AreKept l c.args.keepers.items) (sym c.into_iter-rooms.ensures.rest) c.requires.kept);
+  kept = subst (λ (l : List KeeperData). AreKept (into_iter_items c.into_iter-rooms.result) l) (sym c.into_iter-keepers.ensures.rest) (subst (λ (l : List RoomName). AreKept l c.args.stopped.keepers.items) (sym c.into_iter-rooms.ensures.rest) c.requires.kept);
   home = subst (λ (l : List KeeperData). (k i : ℕ) → away l k i ≡ 0) (sym c.into_iter-keepers.ensures.rest) c.requires.home;
   runs = ([], ap (map spec_of) (sym c.into_iter-rooms.ensures.rest), adds_none (g.A.Gathers.has_gathered c.args.gathered));
 }

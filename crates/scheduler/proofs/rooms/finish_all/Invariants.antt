@@ -9,7 +9,7 @@ abbrev pub invariant-loop-room : goal.invariant-loop-room
 invariant-loop-room g l = record {
   kept : AreKept (into_iter_items l.rooms) (into_iter_items l.keepers);
   home : (k i : ℕ) → away (into_iter_items l.keepers) k i ≡ 0;
-  runs : (specs : List RoomSpec) × (map (λ room. room.spec) l.fn.rooms.items ≡ specs ++ map (λ room. room.spec) (into_iter_items l.rooms)) × AddsRoomRuns specs (g.A.Gathers.has_gathered l.fn.gathered) (g.A.Gathers.has_gathered l.all);
+  runs : (specs : List RoomSpec) × (map (λ room. room.spec) l.fn.stopped.rooms.items ≡ specs ++ map (λ room. room.spec) (into_iter_items l.rooms)) × AddsRoomRuns specs (g.A.Gathers.has_gathered l.fn.gathered) (g.A.Gathers.has_gathered l.all);
 }
 
 abbrev pub decreases-loop-room : goal.decreases-loop-room

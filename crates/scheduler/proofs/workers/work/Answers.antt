@@ -4,10 +4,10 @@ use Rattle.scheduler.specs.declared.visiting.Visited.{Visited}
 use Rattle.scheduler.proofs.Visits.{are_taken}
 use Rattle.scheduler.proofs.workers.work.Goals as goal
 
-pub loop-all-preserved : goal.loop-all-preserved
-loop-all-preserved g c =
-    let loop = c.loop-all.invariant in
-    let taken = are_taken c.args.rooms.now c.loop-all.tasks.items c.take_next.new.tasks.items c.take_next.new.all.items (c.in_ok-take_next.ensures.taken ∙ ap (λ (l : List Visited). l ++ map to_visit c.loop-all.tasks.items) loop.none) loop.left in
+pub loop-visits-preserved : goal.loop-visits-preserved
+loop-visits-preserved g c =
+    let loop = c.loop-visits.invariant in
+    let taken = are_taken c.args.rooms.now c.loop-visits.tasks.items c.take_next.new.tasks.items c.take_next.new.all.items (c.in_ok-take_next.ensures.taken ∙ ap (λ (l : List Visited). l ++ map to_visit c.loop-visits.tasks.items) loop.none) loop.left in
     let ended = c.in_ok-put_stopped.ensures in
     record {
       left = taken.rest;
@@ -18,5 +18,5 @@ loop-all-preserved g c =
 
 pub visit_all-requires : goal.visit_all-requires
 visit_all-requires g c =
-    let loop = c.loop-all.invariant in
-    (are_taken c.args.rooms.now c.loop-all.tasks.items c.take_next.new.tasks.items c.take_next.new.all.items (c.in_ok-take_next.ensures.taken ∙ ap (λ (l : List Visited). l ++ map to_visit c.loop-all.tasks.items) loop.none) loop.left).every
+    let loop = c.loop-visits.invariant in
+    (are_taken c.args.rooms.now c.loop-visits.tasks.items c.take_next.new.tasks.items c.take_next.new.all.items (c.in_ok-take_next.ensures.taken ∙ ap (λ (l : List Visited). l ++ map to_visit c.loop-visits.tasks.items) loop.none) loop.left).every

@@ -1,8 +1,8 @@
 use Rattle.std.proofs.Common.{◌++◌, ◌∷◌, ◌∙◌, [], ap, length, sym, arith}
 use Rattle.room_files.specs.declared.fault.TextFault.TheVariants.{NoCommand}
-use Rattle.script_play.specs.Play.{ending_with, is_lacking, is_refused}
+use Rattle.script_play.specs.Play.{ending_with, ran_out_of_memory, is_refused}
 use Rattle.script_play.specs.Script.{script_from, script_says}
-use Rattle.script_play.proofs.Scripts.{bad_entry, bad_line, behind_none, fault_behind, good_entry, script_ends, step_script}
+use Rattle.script_play.proofs.Scripts.{bad_entry, bad_line, behind_none, fault_after, good_entry, script_ends, step_script}
 use Rattle.script_play.proofs.Followed.{followed-push, run_of}
 use Rattle.script_play.proofs.Playing.{done-push, ending-push}
 use Rattle.script_play.proofs.script.play_script.Goals as goal
@@ -32,7 +32,7 @@ loop-entry-preserved g c =
       omega (arith, few, within, c.lines-number.ensures),
       done-push inv.1 inv.2 there.0 plays.0 inv.6 plays.1,
       followed-push g.F.Follows.follows [] c.args.follower inv.2 plays.0 old.service new.service old.follower new.follower inv.7 plays.2.leaves plays.2.is_followed,
-      plays.2.ends ∙ ap (ending_with (is_lacking plays.0) (is_refused plays.0)) inv.8 ∙ ending-push inv.2 plays.0,
+      plays.2.ends ∙ ap (ending_with (ran_out_of_memory plays.0) (is_refused plays.0)) inv.8 ∙ ending-push inv.2 plays.0,
     )
 
 pub returns-then-not-good-clause-err : goal.returns-then-not-good-clause-err
@@ -47,7 +47,7 @@ returns-then-not-good-clause-err g c =
 pub returns-in_default-take-clause-err : goal.returns-in_default-take-clause-err
 returns-in_default-take-clause-err g c =
     let inv = c.loop-entry.invariant in
-    fault_behind inv.1 (script_from inv.0 c.loop-entry.number c.loop-entry.rest.now) (script_says c.args.script.now) c.judge_unplayed.result inv.4 (c.judge_unplayed.ensures inv.0 inv.3)
+    fault_after inv.1 (script_from inv.0 c.loop-entry.number c.loop-entry.rest.now) (script_says c.args.script.now) c.judge_unplayed.result inv.4 (c.judge_unplayed.ensures inv.0 inv.3)
 
 pub returns-clause-played : goal.returns-clause-played
 returns-clause-played g c =

@@ -1,10 +1,10 @@
 use Rattle.std.proofs.Common.{◌≡◌, ◌++◌, List}
 use Rattle.view_why.specs.Keeping.{AddsDecisions}
-use Rattle.view_why.specs.Told.{ToldRoom}
+use Rattle.view_why.specs.Reported.{ReportedRoom}
 use Rattle.view_why.proofs.keeping.write_kept.Given as goal
 
-abbrev pub invariant-loop-told : goal.invariant-loop-told
-invariant-loop-told l =
-    (goal.iterator-loop-told).can_next l.told-iterator ×
-    (goal.iterator-loop-told).is_finite l.told-iterator ×
-    (done : List ToldRoom) × (l.rooms ≡ done ++ l.told-iterator) × AddsDecisions l.json l.task done l.kept l.initial.output l.output
+abbrev pub invariant-loop-reported : goal.invariant-loop-reported
+invariant-loop-reported l =
+    (goal.iterator-loop-reported).can_next l.reported-iterator ×
+    (goal.iterator-loop-reported).is_finite l.reported-iterator ×
+    (done : List ReportedRoom) × (l.rooms ≡ done ++ l.reported-iterator) × AddsDecisions l.json l.task done l.kept l.initial.output l.output

@@ -7,7 +7,7 @@ use Rattle.view_why.proofs.Floats.{room_is}
 use Rattle.view_why.proofs.objects.write_object.Goals as goal
 
 pub write_line-requires : goal.write_line-requires
-write_line-requires c = room_is c.args.told.now (verdict_of c.args.reason) (task_verdict_of c.args.told.now.spec.task c.args.excess) (view c.in_ok-value.value) c.in_ok-value.ensures
+write_line-requires c = room_is c.args.reported.now (verdict_of c.args.reason) (task_verdict_of c.args.reported.now.spec.task c.args.excess) (view c.in_ok-value.value) c.in_ok-value.ensures
 
 pub returns : goal.returns
 returns c =

@@ -1,0 +1,10 @@
+mod Steps
+mod Growing
+mod Sets
+mod Same
+mod Covering
+mod Searching
+mod Ending
+mod Completing
+mod Taken
+mod Noting

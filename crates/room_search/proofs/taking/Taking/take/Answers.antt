@@ -1,0 +1,45 @@
+use Rattle.std.proofs.Common.{◌≡◌, sym, ◌∙◌, subst, arith}
+use Rattle.std.proofs.lemmas.Option.{same_Some}
+use Rattle.room_search.specs.Taking.{AreAmong, IsTaken}
+use Rattle.room_search.proofs.Noting.{among_taken, never_taken}
+use Rattle.room_search.proofs.Same.{words_stay}
+use Rattle.room_search.proofs.Searching.{node_lent}
+use Rattle.room_search.proofs.taking.Taking.take.Goals as goal
+
+pub resting_in-resting-requires-clause-node : goal.resting_in-resting-requires-clause-node
+resting_in-resting-requires-clause-node c =
+    let explored = c.args.explored.now in
+    let node = c.in-Some.node.now in
+    let here = node_lent c.args.subject.now.spec.now explored.table.keys explored.nodes.items c.deref.result.now c.args.index node c.requires.searched.nodes c.deref.ensures.value c.in-Some.ensures.lookup.0 c.in-Some.ensures.lookup.1 in
+    c.requires.searched.nodes c.args.index node here
+
+pub returns-then-stopped_in-crashes-clause-taken : goal.returns-then-stopped_in-crashes-clause-taken
+returns-then-stopped_in-crashes-clause-taken c = λ node there zero.
+    let spec = c.args.subject.now.spec.now in
+    let explored = c.args.explored.now in
+    let one = c.in-Some.node.now in
+    let here = node_lent spec explored.table.keys explored.nodes.items c.deref.result.now c.args.index one c.requires.searched.nodes c.deref.ensures.value c.in-Some.ensures.lookup.0 c.in-Some.ensures.lookup.1 in
+    subst (IsTaken spec c.args.crashes explored.table.keys c.args.self.now.done.keys) (same_Some one node (sym here ∙ there))
+    (never_taken spec c.args.crashes explored.table.keys c.args.self.now.done.keys one c.resting_in-resting.result.items c.resting_in-resting.ensures.width c.resting_in-resting.ensures.none
+    (omega (arith, c.if-stopped_in-crashes.true, c.stopped_in.ensures)))
+
+pub returns-then-has_done-clause-taken : goal.returns-then-has_done-clause-taken
+returns-then-has_done-clause-taken c = λ node there zero.
+    let spec = c.args.subject.now.spec.now in
+    let explored = c.args.explored.now in
+    let one = c.in-Some.node.now in
+    let here = node_lent spec explored.table.keys explored.nodes.items c.deref.result.now c.args.index one c.requires.searched.nodes c.deref.ensures.value c.in-Some.ensures.lookup.0 c.in-Some.ensures.lookup.1 in
+    subst (IsTaken spec c.args.crashes explored.table.keys c.args.self.now.done.keys) (same_Some one node (sym here ∙ there))
+    (among_taken spec c.args.crashes explored.table.keys c.args.self.now.done.keys one (subst (AreAmong c.args.self.now.done.keys) c.words.ensures (c.has_done.ensures c.if-has_done.true)))
+
+pub returns-clause-taken : goal.returns-clause-taken
+returns-clause-taken c = λ node there zero.
+    let spec = c.args.subject.now.spec.now in
+    let explored = c.args.explored.now in
+    let one = c.in-Some.node.now in
+    let done = c.note.new.self.done.keys in
+    let here = node_lent spec explored.table.keys explored.nodes.items c.deref.result.now c.args.index one c.requires.searched.nodes c.deref.ensures.value c.in-Some.ensures.lookup.0 c.in-Some.ensures.lookup.1 in
+    let stay = words_stay c.words-2.result.now c.as_slice-2.result.now c.if-ne.ensures in
+    let words_are : c.in_ok-settled.settled.room.words ≡ one.words = sym c.words-2.ensures.value ∙ stay ∙ c.as_slice-2.ensures.value ∙ c.words-3.ensures in
+    subst (IsTaken spec c.args.crashes explored.table.keys done) (same_Some one node (sym here ∙ there))
+    (among_taken spec c.args.crashes explored.table.keys done one (subst (AreAmong done) words_are c.in_ok-note.ensures.there))

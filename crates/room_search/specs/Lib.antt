@@ -1,0 +1,6 @@
+pub mod Steps
+pub mod Nodes
+pub mod Searches
+pub mod Resting
+pub mod Reaching
+pub mod Taking

@@ -1,0 +1,56 @@
+-- Outcomes are taken from one node after the other.
+use Rattle.std.specs.Prelude.{◌≡◌, ℕ, ◌<◌, ◌≤◌, Bool, false, List, Some, length, slice_get}
+use Rattle.std.specs.Global.{Vec}
+use Rattle.std.specs.List.{Contains, filter, range_with_len}
+use Rattle.room_spec.specs.Rooms.{RoomSpec}
+use Rattle.simulator.specs.declared.knowledge.Knowledge.{Knowledge}
+use Rattle.simulator.specs.Knowing.{mind_of}
+use Rattle.room_core.specs.Calls.{RoomState}
+use Rattle.room_core.specs.Fields.{Fields}
+use Rattle.room_core.specs.Reading.{AreFieldsOf}
+use Rattle.ws_history.specs.Reports.{states_of}
+use Rattle.run_search.specs.Outcomes.{Ends}
+use Rattle.room_outcomes.specs.Ends.{ends_of}
+use Rattle.room_search.specs.declared.reached.Reached.{Reached}
+use Rattle.room_search.specs.declared.taking.Taking.{Taking}
+use Rattle.room_search.specs.Nodes.{MayKnow, Node}
+use Rattle.room_search.specs.Reaching.{IsFound, IsReachedBy, outcome_of}
+use Rattle.room_search.specs.Resting.{Rests}
+
+-- simulator i may be where it can go no further
+abbrev pub MayRest : RoomSpec → List Knowledge → Node → ℕ → Type 0
+MayRest spec table node i = (known : Knowledge) × MayKnow table node i known × Rests spec node.words (mind_of known).goals
+
+-- these words are among those
+abbrev pub AreAmong : List (Vec ℕ) → List ℕ → Type 0
+AreAmong all words = (one : Vec ℕ) × Contains all one × (one.items ≡ words)
+
+-- all of some list are in another
+abbrev pub Includes : {A : Type 0} → List A → List A → Type 0
+Includes {A} some all = (one : A) → Contains some one → Contains all one
+
+-- A room with these words was run, and its outcome is found.
+pub record IsRun (spec : RoomSpec) (outcomes : List Reached) (words : List ℕ) : Type 0 where
+  pub room : RoomState
+  pub of_room : room.spec ≡ spec
+  pub fields : Fields
+  pub are : AreFieldsOf room fields
+  pub words_are : room.words ≡ words
+  pub found : IsFound outcomes (ends_of (states_of spec fields))
+
+-- The words of the node are among those of which a room was run, if all but a few simulators may be where they can go no further.
+abbrev pub IsTaken : RoomSpec → ℕ → List Knowledge → List (Vec ℕ) → Node → Type 0
+IsTaken spec crashes table done node =
+    (crashed : ℕ → Bool) → length (filter crashed (range_with_len 0 spec.simulators)) ≤ crashes
+    → ((i : ℕ) → i < spec.simulators → crashed i ≡ false → MayRest spec table node i) → AreAmong done node.words
+
+-- each outcome is kept under its ends
+pub record AreKept (ends : List Ends) (outcomes : List Reached) : Type 0 where
+  pub count : length outcomes ≡ length ends
+  pub each : (index : ℕ) (one : Ends) (reached : Reached) → slice_get ends index ≡ Some one → slice_get outcomes index ≡ Some reached → one.items ≡ outcome_of reached
+
+-- what was taken so far
+pub record IsTaking (spec : RoomSpec) (crashes : ℕ) (taking : Taking) : Type 0 where
+  pub kept : AreKept taking.ends.keys taking.outcomes.items
+  pub reached : (reached : Reached) → Contains taking.outcomes.items reached → IsReachedBy spec crashes reached
+  pub done : (one : Vec ℕ) → Contains taking.done.keys one → IsRun spec taking.outcomes.items one.items

@@ -1,0 +1,17 @@
+//! All outcomes that the simulators of a room can reach, found by a search of its schedules.
+#![tactic(auto)]
+
+mod closing;
+mod explored;
+mod node;
+mod path;
+mod reached;
+mod resting;
+mod search;
+mod stepping;
+mod subject;
+mod table;
+mod taking;
+
+pub use reached::Reached;
+pub use search::{Reach, search_room};

@@ -1,5 +1,0 @@
-use Rattle.script_play.proofs.Playing.{lack_line, where_ok}
-use Rattle.script_play.proofs.replies.RepliesFollows.lack.Goals as goal
-
-pub returns : goal.returns
-returns c = where_ok c.write_refused_code.result _ _ (λ text. λ rooms. lack_line c.args.self.now.output c.write_refused_code.new.output c.args.line c.code.result c.code.ensures text) c.write_refused_code.ensures

@@ -1,0 +1,4 @@
+mod Answering
+mod Counting
+mod Ordering
+mod Floats

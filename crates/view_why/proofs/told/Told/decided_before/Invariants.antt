@@ -1,5 +1,0 @@
-use Rattle.view_why.specs.Told.{AreDecidedBefore}
-use Rattle.view_why.proofs.told.Told.decided_before.Given as goal
-
-abbrev pub invariant-loop-index : goal.invariant-loop-index
-invariant-loop-index l = AreDecidedBefore l.self l.index l.before.items
