@@ -26,7 +26,7 @@ extern "C" {
 /* How a call ended. With the first two and BGVIEW_INCOMPLETE there is an answer; else its length is 0. */
 enum bgview_status {
     BGVIEW_OK = 0,         /* all is well */
-    BGVIEW_REFUSED = 1,    /* something was refused, broken, not reached (grade), or not searched to the end (outcomes, task, inputs, keeps) */
+    BGVIEW_REFUSED = 1,    /* something was refused, broken, not reached (grade), or not searched to the end (outcomes, task, inputs, keeps, rooms) */
     BGVIEW_BAD_INPUT = 2,  /* a line of the input is malformed: `line` and `fault` say which, and why */
     BGVIEW_NO_MEMORY = 3,  /* an allocation failed */
     BGVIEW_INCOMPLETE = 4, /* an allocation failed for a command of a script, and the answer says for which and has the rest; or for a room that was
@@ -34,7 +34,7 @@ enum bgview_status {
     BGVIEW_TOO_LONG = 5,   /* the input has more than BGVIEW_MAX_INPUT bytes */
     BGVIEW_BAD_GOAL = 6,   /* the goal is not valid (grade); `line` is the number of the claim at which it stops being one */
     BGVIEW_BAD_VALUES = 7, /* the values are not valid (inputs); `line` is the number of the one at which they stop being so: the 17th if there are more than 16 */
-    BGVIEW_BAD_TASK = 8    /* the task is not valid (keeps); `line` is the number of the line that is no condition, and `fault` says why */
+    BGVIEW_BAD_TASK = 8    /* the task is not valid (keeps, why_with, page_with); `line` is the number of the line that is no condition, and `fault` says why */
 };
 
 struct bgview_result {
@@ -45,7 +45,7 @@ struct bgview_result {
 };
 
 #define BGVIEW_MAX_INPUT 16777216
-#define BGVIEW_ALL_BUT_ONE UINT32_MAX /* for `crashes`: all processes but one may stop */
+#define BGVIEW_ALL_BUT_ONE UINT32_MAX /* for `crashes`: all processes but one may stop, or all simulators but one crash (rooms) */
 #define BGVIEW_NO_LIMIT UINT32_MAX    /* for `most` and `top`: any number of commands, and all outcomes */
 #define BGVIEW_EACH UINT32_MAX        /* for `outcome`: not one outcome, but all */
 
@@ -68,6 +68,11 @@ void bgview_check(const uint8_t *transcript, size_t length, uint8_t *output, siz
 /* bgview why: the same, and why not. With `json` an object of JSON a line. */
 void bgview_why(const uint8_t *transcript, size_t length, bool json, uint8_t *output, size_t size, struct bgview_result *result);
 
+/* bgview why --keeps: the same, and then whether each run keeps a task of your own. `task` is text, as of bgview_keeps. */
+void bgview_why_with(const uint8_t *transcript, size_t length, const uint8_t *task, size_t task_length, uint8_t *output, size_t size, struct bgview_result *result);
+void bgview_why_with_json(const uint8_t *transcript, size_t length, const uint8_t *task, size_t task_length, uint8_t *output, size_t size,
+                          struct bgview_result *result);
+
 /* bgsim play: the replies to a script. */
 void bgview_play(const uint8_t *script, size_t length, uint8_t *output, size_t size, struct bgview_result *result);
 
@@ -86,6 +91,9 @@ void bgview_grade(const uint8_t *script, size_t length, const uint8_t *goal, siz
 
 /* bgview page: a page, an HTML file, that steps through a script or a transcript in a browser. */
 void bgview_page(const uint8_t *file, size_t length, uint8_t *output, size_t size, struct bgview_result *result);
+
+/* bgview page --keeps: the page of a transcript, with what bgview_why_with says of it. */
+void bgview_page_with(const uint8_t *transcript, size_t length, const uint8_t *task, size_t task_length, uint8_t *output, size_t size, struct bgview_result *result);
 
 /* bgview outcomes: all outcomes of the protocol of each room, if at most `crashes` processes stop, by a search of at most `nodes` nodes of a room; bgview takes
    1000000 if no number is given. `brief` leaves out the transcripts. With _json, here and below: the same answer, an object of JSON a line. */
@@ -110,6 +118,17 @@ void bgview_keeps(const uint8_t *rooms, size_t length, const uint8_t *task, size
                   struct bgview_result *result);
 void bgview_keeps_json(const uint8_t *rooms, size_t length, const uint8_t *task, size_t task_length, uint32_t nodes, uint8_t *output, size_t size,
                        struct bgview_result *result);
+
+/* How all schedules of rooms are searched. bgview takes BGVIEW_ALL_BUT_ONE and 1000000 nodes if no number is given. */
+struct bgview_search {
+    uint32_t crashes; /* at most this many simulators crash, or BGVIEW_ALL_BUT_ONE */
+    uint32_t nodes;   /* how many nodes of a room are searched at most */
+    bool brief;       /* whether scripts are left out, in JSON the schedules */
+    bool json;        /* whether the outcomes are written as JSON */
+};
+
+/* bgview outcomes --rooms: all outcomes that the simulators of each room can reach under any schedule, each with a script that leads to it. */
+void bgview_rooms(const uint8_t *rooms, size_t length, const struct bgview_search *search, uint8_t *output, size_t size, struct bgview_result *result);
 
 /* bgview sample: the outcomes of each room by random schedules, and how often each came. All schedules run on the caller's thread. */
 void bgview_sample(const uint8_t *rooms, size_t length, const struct bgview_plan *plan, uint8_t *output, size_t size, struct bgview_result *result);

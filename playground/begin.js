@@ -98,6 +98,7 @@ function bindStage() {
     if (dataset.again) change({ text: paper.exercise.text, before: null }, Infinity);
     if (dataset.run) openRun(dataset.run);
   };
+  at('own-task').oninput = () => showVerdict(reading, paper.text);
   at('verdict').onclick = ({ target }) => target.id === 'to-break' && goToBreak();
 }
 

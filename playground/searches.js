@@ -2,11 +2,12 @@
 
 const FIELDS = {
   outcomes: [
-    { name: 'crashes', words: 'processes that stop, at most', least: 0, most: 16, usual: '', empty: 'all but one' },
+    { name: 'crashes', words: 'processes that stop, or simulators that crash, at most', least: 0, most: 16, usual: '', empty: 'all but one' },
     { name: 'nodes', words: 'nodes, at most', least: 1, most: 100000000, usual: 1000000, growsFrom: 20000 },
     { name: 'task', words: 'the task alone', isSwitch: true },
     { name: 'values', words: 'the task with all inputs of', isText: true, empty: '0,1' },
     { name: 'keeps', words: 'a task of your own', isText: true, empty: 'equal(mine) == count; given >= 2' },
+    { name: 'rooms', words: 'all schedules of the simulators', isSwitch: true },
   ],
   sample: [
     { name: 'schedules', words: 'schedules', least: 1, most: 1000000, usual: 1000, growsFrom: 1000 },
@@ -127,7 +128,8 @@ function givenFields(mode) {
 }
 
 // The call that answers what the fields ask for, and its options.
-function callOf(mode, { task, values, keeps, ...given }) {
+function callOf(mode, { task, values, keeps, rooms, ...given }) {
+  if (rooms) return { mode: 'rooms', given };
   if (keeps) return { mode: 'keeps', given: { ...given, task: keeps } };
   if (values) return { mode: 'inputs', given: { ...given, values } };
   return { mode: task ? 'task' : mode, given };
@@ -154,6 +156,13 @@ function showProgress(done, limits, name) {
   at('progress').querySelector('output').textContent = `${done === 0 ? '' : `${withCommas(limits[done - 1])} of ${withCommas(limits.at(-1))} ${name}; `}going on to ${withCommas(limits[done])}`;
 }
 
+// Why what the fields ask for can't be asked for together.
+function clashOf({ task, values, keeps, rooms }) {
+  if (values && keeps) return 'There can be other inputs, or a task of your own, but not both.';
+  if (rooms && (task || values || keeps)) return 'Of all schedules the outcomes are listed: no task is judged, and there are no other inputs.';
+  return '';
+}
+
 function search(mode, rooms) {
   stopSearch();
   if (!at('fields').checkValidity()) {
@@ -161,8 +170,9 @@ function search(mode, rooms) {
     return;
   }
   const fields = givenFields(mode);
-  if (fields.values && fields.keeps) {
-    at('shown').innerHTML = '<p class="fault">There can be other inputs, or a task of your own, but not both.</p>';
+  const clash = clashOf(fields);
+  if (clash) {
+    at('shown').innerHTML = `<p class="fault">${clash}</p>`;
     return;
   }
   const asked = callOf(mode, fields);

@@ -12,18 +12,22 @@ const OPTIONS = {
   grade: [['commands', LARGEST]],
 };
 const JSON_TOO = ['outcomes', 'task', 'inputs', 'keeps']; // with `json: true` these are calls of their own
+const WITH_TASK = ['why', 'page']; // and with `task` these are
 const TEXTS = { grade: 'goal', inputs: 'values', keeps: 'task' }; // the calls with a second input, and the option that has it
-const PLAN = [['schedules', 1000], ['crashes', 1], ['seed', 1], ['from', 0], ['top', LARGEST], ['outcome', LARGEST]]; // the numbers of a struct bgview_plan,
-const PLAN_FLAGS = ['group', 'brief', 'json']; // and after them these
+// The calls whose options are a struct of C: its numbers, and after them its flags.
+const STRUCTS = {
+  sample: { numbers: [['schedules', 1000], ['crashes', 1], ['seed', 1], ['from', 0], ['top', LARGEST], ['outcome', LARGEST]], flags: ['group', 'brief', 'json'] },
+  rooms: { numbers: [['crashes', LARGEST], ['nodes', 1000000]], flags: ['brief', 'json'] },
+};
 const RESULT = 24; // the bytes of a struct bgview_result
 const NO_MEMORY = 3;
 
-// The bytes of a struct bgview_plan.
-function planOf(given) {
-  const plan = new DataView(new ArrayBuffer(4 * PLAN.length + 4));
-  PLAN.forEach(([name, value], index) => plan.setUint32(4 * index, given[name] ?? value, true));
-  PLAN_FLAGS.forEach((name, index) => plan.setUint8(4 * PLAN.length + index, Number(given[name] ?? false)));
-  return new Uint8Array(plan.buffer);
+// The bytes of a struct with these numbers and flags.
+function structOf({ numbers, flags }, given) {
+  const bytes = new DataView(new ArrayBuffer(4 * numbers.length + 4));
+  numbers.forEach(([name, value], index) => bytes.setUint32(4 * index, given[name] ?? value, true));
+  flags.forEach((name, index) => bytes.setUint8(4 * numbers.length + index, Number(given[name] ?? false)));
+  return new Uint8Array(bytes.buffer);
 }
 
 // `most` is how many bytes of memory a call may take, and `size` how large the first buffer for an answer is.
@@ -67,10 +71,13 @@ export async function load(bytes, { most = 1024 * 1048576, size: usual = 1048576
   const view = {
     memory: () => exports.memory.buffer.byteLength,
     fault: number => call('fault', [], [number]),
-    sample: (input, given = {}) => call('sample', [input], [planOf(given)]),
   };
+  for (const [name, struct] of Object.entries(STRUCTS)) {
+    view[name] = (input, given = {}) => call(name, [input], [structOf(struct, given)]);
+  }
   for (const [name, options] of Object.entries(OPTIONS)) {
     view[name] = (input, given = {}) => {
+      if (given.task !== undefined && WITH_TASK.includes(name)) return call(`${name}_with${given.json ? '_json' : ''}`, [input, given.task], []);
       const more = options.map(([option, value]) => Number(given[option] ?? value));
       const called = given.json && JSON_TOO.includes(name) ? `${name}_json` : name;
       return call(called, TEXTS[name] ? [input, given[TEXTS[name]] ?? ''] : [input], more);

@@ -6,7 +6,7 @@ from differing import Differs, holds
 
 
 def judged_rooms(transcript, answer):
-    """The events of each room that has a verdict, with the reason of the one that breaks its run."""
+    """The events of each room that has a verdict, with the reason of each that breaks its run or a task."""
     lines = transcript.split("\n")
     first = lines.index("events")
     sizes, rounds, name = {}, {}, None
@@ -27,9 +27,11 @@ def judged_rooms(transcript, answer):
         else:
             name = line.split(" ")[0]
             if name not in rooms:
-                rooms[name] = {"name": name, "size": sizes[name], "rounds": rounds[name], "verdicts": [], "notes": [], "events": [], "compare": compare_judged}
-                notes = rooms[name]["notes"]
+                rooms[name] = {"name": name, "size": sizes[name], "rounds": rounds[name], "verdicts": [], "notes": {}, "events": [], "compare": compare_judged}
             rooms[name]["verdicts"].append(line)
+            notes = []
+            if breaking := re.search(r" line (\d+)$", line):
+                rooms[name]["notes"][int(breaking[1])] = notes
     for number, line in enumerate(lines[first + 1:], first + 2):
         if line.split(" ")[0] in rooms:
             rooms[line.split(" ")[0]]["events"].append((number, line.split(" ", 2)[1:]))
@@ -44,8 +46,8 @@ def judged_sentences(room):
     sentences = ["Nothing has happened."]
     for number, (process, event) in room["events"]:
         sentence = [f"line {number}: ", f"process {process}", ": ", event]
-        if number == room["broken"]:
-            sentence.append(room["notes"][1])
+        if number in room["notes"]:
+            sentence.append(" ".join(room["notes"][number][1:]))
         elif room["broken"] and number > room["broken"]:
             sentence.append("after the event that breaks the run")
         sentences.append("|".join(sentence))

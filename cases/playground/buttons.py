@@ -202,7 +202,15 @@ def searching(page):
         page.click("#fields button")
         compare_search(page, "outcomes", text_of(page), [option, value])
         holds("whether a card is of a broken task", any(card["broken"] for card in cards(page)), value == "equal(mine) == count")
-    page.run("at('fields').values.value = '0'")
+    choose(page, "outcomes/blind")
+    tab(page, "outcomes")
+    page.run("at('fields').rooms.checked = true; at('fields').crashes.value = '0'; at('fields').nodes.value = '300'")
+    page.click("#fields button")
+    compare_search(page, "outcomes", text_of(page), ["--rooms", "--crashes", "0", "--nodes", "300"])
+    page.run("at('fields').keeps.value = 'count'")
+    page.click("#fields button")
+    holds("what all schedules and a task of one's own bring", page.run("at('shown').textContent"), "Of all schedules the outcomes are listed: no task is judged, and there are no other inputs.")
+    page.run("at('fields').rooms.checked = false; at('fields').values.value = '0'")
     page.click("#fields button")
     holds("what other inputs and a task of one's own bring", page.run("at('shown').textContent"), "There can be other inputs, or a task of your own, but not both.")
     page.run("at('fields').keeps.value = ''; at('fields').values.value = '3,3'")
@@ -217,6 +225,28 @@ def searching(page):
     holds("the run that is opened", page.run("[tab, paper.text]"), ["steps", run])
     page.click("#undo")
     holds("the text after undo", text_of(page), pathlib.Path("examples/sample/one-crash/input.txt").read_text())
+
+
+def verdict(page, task):
+    """What is said at once of a task of the reader's own."""
+    page.run(f"at('own-task').value = {task!r}; at('own-task').dispatchEvent(new Event('input'))")
+    return page.run("[at('verdict').hidden ? '' : at('verdict').querySelector('pre').textContent, at('verdict').className]")
+
+
+def judging(page):
+    """A task of the reader's own, over a transcript and over a script, and one that is no task."""
+    choose(page, "check/set-agreement")
+    for task, mark in (("equal(mine) == count", "broken"), ("given >= 1", "broken")):
+        said = answered(["bgview", "why", "--keeps", task], text_of(page)).stdout
+        holds(f"the verdict on a transcript by {task}", verdict(page, task), [said.rstrip(), mark])
+    choose(page, "play/half-done")
+    trace = answered(["bgview", "transcript"], text_of(page)).stdout
+    for task, mark in (("mine == 7", "broken"), ("count <= 2", "")):
+        said = answered(["bgview", "why", "--keeps", task], trace).stdout
+        shown = re.findall(r"^\S+ decisions (?:are allowed|broken: line \d+\n(?:    .*\n)*)", said, re.M)
+        holds(f"the verdict on a script by {task}", verdict(page, task), ["\n".join(line.rstrip() for line in shown), mark])
+    holds("the verdict by what is no task", verdict(page, "count"), ["Line 1 of the task is no condition: the token is not allowed here, or the text ends too early.", "broken"])
+    holds("the verdict without a task", verdict(page, ""), ["", ""])
 
 
 def answers(page):
@@ -273,7 +303,7 @@ def in_sizes(page, file):
 
 def all_of(page, file):
     page.run(WATCH)
-    for part in (editing, failing, moving, branching, copying, searching, answers):
+    for part in (editing, failing, moving, branching, copying, searching, judging, answers):
         part(page)
         page.holds_no_fault()
     choose(page, "exercise/one-value")

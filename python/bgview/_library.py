@@ -41,6 +41,12 @@ class Plan(ctypes.Structure):
     _fields_ = [(name, ctypes.c_uint32) for name in ("schedules", "crashes", "seed", "from", "top", "outcome")] + [(name, ctypes.c_bool) for name in ("group", "brief", "json")]
 
 
+class Search(ctypes.Structure):
+    """`struct bgview_search` of include/bgview.h."""
+
+    _fields_ = [(name, ctypes.c_uint32) for name in ("crashes", "nodes")] + [(name, ctypes.c_bool) for name in ("brief", "json")]
+
+
 def bytes_of(text: Text) -> bytes:
     """Bytes as they are, and a text as UTF-8."""
     return text.encode(errors="surrogateescape") if isinstance(text, str) else bytes(text)

@@ -8,7 +8,7 @@ import re
 from typing import Any, Dict, Iterable, List, Optional, Tuple
 
 from . import _library
-from ._library import LARGEST, Plan, Text, bytes_of, flag, number, sentence, slice_of
+from ._library import LARGEST, Plan, Search, Text, bytes_of, flag, number, sentence, slice_of
 from .errors import InputError
 
 Json = Dict[str, Any]
@@ -95,14 +95,19 @@ def play(script: Text) -> Answer:
     return Answer(*_answer("play", script))
 
 
-def why(transcript: Text) -> Answer:
-    """The verdicts of `check`, and under each that breaks a run the line and the reason. As `bgview why`."""
-    return Answer(*_answer("why", transcript, flag(False)))
+def why(transcript: Text, keeps: Optional[Text] = None) -> Answer:
+    """The verdicts of `check`, and under each that breaks a run the line and the reason; then, with `keeps`, whether each run keeps this task of your own, as of
+    `keeps`. As `bgview why`, also with `--keeps`."""
+    if keeps is None:
+        return Answer(*_answer("why", transcript, flag(False)))
+    return Answer(*_answer("why_with", transcript, *slice_of(keeps)))
 
 
-def why_json(transcript: Text) -> Objects:
-    """The same: an object for each room. As `bgview why --json`."""
-    return Objects(*_answer("why", transcript, flag(True)))
+def why_json(transcript: Text, keeps: Optional[Text] = None) -> Objects:
+    """The same: an object for each room, and with `keeps` one more for each run. As `bgview why --json`."""
+    if keeps is None:
+        return Objects(*_answer("why", transcript, flag(True)))
+    return Objects(*_answer("why_with_json", transcript, *slice_of(keeps)))
 
 
 def trace(script: Text) -> Answer:
@@ -125,9 +130,12 @@ def transcript(script: Text) -> Answer:
     return Answer(*_answer("transcript", script))
 
 
-def page(file: Text) -> Page:
-    """A page that steps through a script or a transcript in a browser. As `bgview page`."""
-    return Page(*_answer("page", file))
+def page(file: Text, keeps: Optional[Text] = None) -> Page:
+    """A page that steps through a script or a transcript in a browser; with `keeps` through a transcript, and with what `why` says of it. As `bgview page`, also with
+    `--keeps`."""
+    if keeps is None:
+        return Page(*_answer("page", file))
+    return Page(*_answer("page_with", file, *slice_of(keeps)))
 
 
 def _nodes(nodes: int) -> Any:
@@ -176,6 +184,22 @@ def keeps(rooms: Text, task: Text, nodes: int = 1000000) -> Answer:
 def keeps_json(rooms: Text, task: Text, nodes: int = 1000000) -> Objects:
     """The same: an object for each room. As `bgview outcomes --keeps --json`."""
     return Objects(*_answer("keeps_json", rooms, *slice_of(task), _nodes(nodes)))
+
+
+def _search(json: bool, crashes: Optional[int], nodes: int, brief: bool) -> Any:
+    """How all schedules of rooms are searched, as a call takes it."""
+    return ctypes.byref(Search(_unless_none("crashes", crashes, 16), _nodes(nodes), brief, json))
+
+
+def rooms(rooms: Text, crashes: Optional[int] = None, nodes: int = 1000000, brief: bool = False) -> Answer:
+    """All outcomes that the simulators of each room can reach under any schedule, if at most `crashes` of them crash (without a number all but one), each with a script
+    that leads to it. A room is searched up to `nodes` nodes; `brief` leaves out the scripts. As `bgview outcomes --rooms`."""
+    return Answer(*_answer("rooms", rooms, _search(False, crashes, nodes, brief)))
+
+
+def rooms_json(rooms: Text, crashes: Optional[int] = None, nodes: int = 1000000, brief: bool = False) -> Objects:
+    """The same: for each room an object for each outcome, and one for the room. As `bgview outcomes --rooms --json`."""
+    return Objects(*_answer("rooms", rooms, _search(True, crashes, nodes, brief)))
 
 
 def _plan(json: bool, schedules: int, crashes: int, seed: int, group: bool, brief: bool, top: Optional[int], outcome: Optional[int], from_: int) -> Any:

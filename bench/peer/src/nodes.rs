@@ -25,20 +25,20 @@ struct Local {
 }
 
 /// Different values, by numbers.
-struct Numbered<T> {
-    all: Vec<T>,
+pub struct Numbered<T> {
+    pub all: Vec<T>,
     numbers: HashMap<T, u32, Keyed>,
 }
 
 impl<T: Clone + Eq + std::hash::Hash> Numbered<T> {
-    fn new() -> Numbered<T> {
+    pub fn new() -> Numbered<T> {
         Numbered {
             all: Vec::new(),
             numbers: HashMap::default(),
         }
     }
 
-    fn number(&mut self, value: T) -> u32 {
+    pub fn number(&mut self, value: T) -> u32 {
         if let Some(number) = self.numbers.get(&value) {
             return *number;
         }

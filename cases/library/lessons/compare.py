@@ -31,6 +31,11 @@ MODES = {
     "bgview outcomes --nodes 20000 --json --keeps": lambda text: bgview.keeps_json(text, "equal(mine) == count; given >= 2", 20000),
     "bgview outcomes --nodes 200 --inputs 0,7": lambda text: bgview.inputs(text, (0, 7), 200),
     "bgview outcomes --nodes 20000 --keeps": lambda text: bgview.keeps(text, "equal(mine) == count; given >= 2", 20000),
+    "bgview why --keeps": lambda text: bgview.why(text, "equal(mine) == count"),
+    "bgview why --json --keeps": lambda text: bgview.why_json(text, keeps="equal(mine) == count"),
+    "bgview page --keeps": lambda text: bgview.page(text, "mine == min"),
+    "bgview outcomes --rooms --nodes 2000 --crashes 0": lambda text: bgview.rooms(text, 0, 2000),
+    "bgview outcomes --rooms --nodes 2000 --brief --json": lambda text: bgview.rooms_json(text, nodes=2000, brief=True),
     "bgview sample --schedules 20": lambda text: bgview.sample(text, 20),
     "bgview sample --schedules 20 --crashes 2 --seed 5 --group --brief --top 2": lambda text: bgview.sample(text, 20, 2, 5, group=True, brief=True, top=2),
     "bgview sample --schedules 20 --from 4294967290": lambda text: bgview.sample(text, 20, from_=4294967290),
@@ -41,6 +46,9 @@ MODES = {
     "bgview grade --commands 2 --goal": lambda text: bgview.grade(text, "decided 1 3", 2),
 }
 TEXTS = {
+    "bgview why --keeps": ["equal(mine) == count"],
+    "bgview why --json --keeps": ["equal(mine) == count"],
+    "bgview page --keeps": ["mine == min"],
     "bgview grade --goal": ["held 0 or not crashed 1"],
     "bgview grade --commands 2 --goal": ["decided 1 3"],
     "bgview outcomes --nodes 20000 --keeps": ["equal(mine) == count; given >= 2"],

@@ -31,6 +31,14 @@ static void call_each(size_t length, struct bgview_result *result) {
     for (const char *const *task = (const char *const[]){"equal(mine) == count; given >= 2", "count > 0; cou", NULL}; *task != NULL; task++) {
         bgview_keeps(input, length, (const uint8_t *)*task, strlen(*task), 5000, output, sizeof output, result);
         bgview_keeps_json(input, length, (const uint8_t *)*task, strlen(*task), 5000, output, sizeof output, result);
+        bgview_why_with(input, length, (const uint8_t *)*task, strlen(*task), output, sizeof output, result);
+        bgview_why_with_json(input, length, (const uint8_t *)*task, strlen(*task), output, sizeof output, result);
+        bgview_page_with(input, length, (const uint8_t *)*task, strlen(*task), output, sizeof output, result);
+    }
+    struct bgview_search search = {.crashes = BGVIEW_ALL_BUT_ONE, .nodes = 2000};
+    for (int option = 0; option < 2; option++) {
+        search.json = option;
+        bgview_rooms(input, length, &search, output, sizeof output, result);
     }
     bgview_fault(13, output, sizeof output, result);
 }

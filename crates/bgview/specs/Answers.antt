@@ -1,5 +1,6 @@
 -- What is answered for an input, by what is requested.
 use Rattle.std.specs.Prelude.{◌≡◌, ⊤, ℕ, ◌<◌, ◌≤◌, Bool, true, false, ◌&&◌, ◌||◌, List, [], ◌∷◌, ◌++◌, length, Option, Some, None, is_some, Result, Ok, Err, OnOk, alloc_error, if◌then◌else◌, option_map}
+use Rattle.std.specs.Borrow.{Bor}
 use Rattle.std.specs.declared.alloc.AllocError.{AllocError}
 use Rattle.io_text.specs.Reading.{most_bytes}
 use Rattle.io_text.specs.declared.fault.DeviceFault.{DeviceFault}
@@ -29,7 +30,7 @@ use Rattle.view_outcomes.specs.declared.search.Search.{Search}
 use Rattle.view_outcomes.specs.declared.values.ValuesFault.{ValuesFault}
 use Rattle.view_draw.specs.Drawn.{IsDrawn}
 use Rattle.view_transcript.specs.Transcripts.{IsTranscribed}
-use Rattle.view_page.specs.Pages.{IsPageFor, fault_among, fault_in}
+use Rattle.view_page.specs.Pages.{IsKeptPage, IsPageFor, fault_among, fault_in}
 use Rattle.view_rooms.specs.Blocks.{IsRoomsFor}
 use Rattle.view_rooms.specs.declared.plan.RoomPlan.{RoomPlan}
 use Rattle.room_sample.specs.declared.sampling.Plan.{Plan}
@@ -61,6 +62,10 @@ IsWhole shown (Err refused) output = ⊥
 
 abbrev pub goal_text : Grading → List ℕ
 goal_text grading = grading.goal.now
+
+-- an option's text
+abbrev pub text_of : Option (Bor (List ℕ)) → Option (List ℕ)
+text_of option = option_map (λ text. text.now) option
 
 -- the task of one's own by which runs of a transcript are judged, as text
 abbrev pub judged_by : Explaining → Option (List ℕ)
@@ -167,12 +172,17 @@ IsSampledWith (Some lines) plan input ending output = IsWhole (IsKeptSample line
 abbrev pub IsSamplingShown : Sampling → List ℕ → Result Outcome AllocError → List ℕ → Type 0
 IsSamplingShown sampling input ending output = (task : Option (List Tree)) × IsTaskOf (sampled_by sampling) task × IsSampledWith task sampling.plan input ending output
 
+-- a page of the file; or of the transcript that it is read as, whose runs are judged by the task that this text says
+abbrev pub IsPageShown : Option (List ℕ) → List ℕ → Result Outcome AllocError → List ℕ → Type 0
+IsPageShown None input ending output = IsPageFor (input ∷ []) ending output
+IsPageShown (Some text) input ending output = (lines : List Tree) × (task_in text ≡ Ok lines) × IsWhole (IsKeptPage lines input) ending output
+
 -- as text, or as JSON if that is asked for
 abbrev pub IsShown : Request → List ℕ → Result Outcome AllocError → List ℕ → Type 0
 IsShown (Why explaining) input ending output = IsWhyShown explaining input ending output
 IsShown (Trace json) input ending output = IsTraceIn json input ending output
 IsShown (Draw style) input ending output = IsDrawn style input ending output
-IsShown Page input ending output = IsPageFor (input ∷ []) ending output
+IsShown (Page keeps) input ending output = IsPageShown (text_of keeps) input ending output
 IsShown Transcript input ending output = IsTranscribed input ending output
 IsShown (Grade grading) input ending output = IsGradeFor grading input ending output
 IsShown (Sample sampling) input ending output = IsSamplingShown sampling input ending output
@@ -181,12 +191,17 @@ IsShown (Lint json) input ending output = IsWhole (IsLintIn json input) ending o
 
 -- ---- why nothing is shown
 
+-- the first fault of a file of which a page is made
+abbrev pub page_fault : Option (List ℕ) → List ℕ → Option FaultAt
+page_fault None input = fault_among (input ∷ [])
+page_fault (Some text) input = fault_in (input_says input)
+
 -- the input's first fault and its line, by what the input is read as: rooms are refused one by one, so a file of rooms has no fault
 abbrev pub first_fault : Request → List ℕ → Option FaultAt
 first_fault (Why explaining) input = fault_in (input_says input)
 first_fault (Trace json) input = fault_in (script_says input)
 first_fault (Draw style) input = fault_in (script_says input)
-first_fault Page input = fault_among (input ∷ [])
+first_fault (Page keeps) input = page_fault (text_of keeps) input
 first_fault Transcript input = fault_in (script_says input)
 first_fault (Grade grading) input = fault_in (script_says input)
 first_fault _ input = None
@@ -250,6 +265,7 @@ grade_fault keeps goal = either_fault (keeps_fault keeps) (goal_fault_in (goal_i
 -- the fault of a task of one's own, of the goal that a script is graded by, or of the options of `outcomes`
 abbrev pub option_fault : Request → Option OptionFault
 option_fault (Why explaining) = keeps_fault (judged_by explaining)
+option_fault (Page keeps) = keeps_fault (text_of keeps)
 option_fault (Grade grading) = grade_fault (kept_by grading) (goal_text grading)
 option_fault (Sample sampling) = sampling_fault sampling
 option_fault (Outcomes searching) = searching_fault searching

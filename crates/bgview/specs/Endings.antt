@@ -1,5 +1,5 @@
 -- How the program ends, by the words that it is given and the input that they name.
-use Rattle.std.specs.Prelude.{◌≡◌, ◌⊎◌, ℕ, Bool, List, [], ◌∷◌, Option, Some, None, Result, Err, IfSome, IsSome, codes, option_and_then, unwrap_or}
+use Rattle.std.specs.Prelude.{◌≡◌, ◌⊎◌, ℕ, Bool, true, false, List, [], ◌∷◌, Option, Some, None, Result, Err, IfSome, IsSome, is_some, codes, option_and_then, unwrap_or}
 use Rattle.clap.specs.Kinds.{IsAmong}
 use Rattle.clap.specs.Words.{Row, fault_of, subcommand_of}
 use Rattle.clap.specs.declared.error.kind.ErrorKind.{ErrorKind}
@@ -21,10 +21,13 @@ use Rattle.bgview.specs.Unread.{IsUnreadIf}
 use Rattle.view_page.specs.Faults.{NamedFile}
 use Rattle.bgview.specs.declared.ended.Ended.{Ended}
 use Rattle.bgview.specs.declared.request.OfInput.{OfInput}
+use Rattle.bgview.specs.declared.request.OfInput.TheVariants.{Whole}
+use Rattle.bgview.specs.declared.request.Request.TheVariants.{Page}
 use Rattle.bgview.specs.declared.request.Requested.{Requested}
 use Rattle.bgview.specs.declared.request.Requested.TheVariants.{Faults, Input}
+use Rattle.bgview.specs.declared.fault.OptionFault.TheVariants.{Second}
 use Rattle.bgview.specs.declared.fault.ViewFault.{ViewFault}
-use Rattle.bgview.specs.declared.fault.ViewFault.TheVariants.{Device}
+use Rattle.bgview.specs.declared.fault.ViewFault.TheVariants.{BadOption, Device}
 
 -- the subcommand that was found in the words, with its values
 abbrev pub Found : Type 0
@@ -57,11 +60,29 @@ IsPaged file next result notes writes = (output : List ℕ) × IsPageAnswer (fil
 abbrev pub named_file : Option (List ℕ) → List ℕ → NamedFile
 named_file path bytes = record { name = unwrap_or path (codes "-"); bytes = bytes }
 
--- One input is answered, or two in one page, unless the second was not opened.
+-- a page is asked for whose runs are judged by a task of one's own
+abbrev pub is_kept_page : OfInput → Bool
+is_kept_page (Whole (Page keeps)) = is_some keeps
+is_kept_page _ = false
+
+-- two files are given for a page of one
+abbrev pub IsRefusedPage : Result Outcome ViewFault → List ℕ → Writes → Type 0
+IsRefusedPage result notes writes = (result ≡ Err (BadOption Second)) × (notes ≡ []) × HasAppended writes []
+
+-- both are answered in one page, unless the second was not opened
+abbrev pub ArePaged : Found → Named → Result Outcome ViewFault → List ℕ → Writes → Type 0
+ArePaged found named result notes writes = IsNotOpened result notes writes
+    ⊎ IfSome named.first (λ file. IfSome named.second (λ next. IsPaged (named_file (file_among found) file) (named_file (other_among found) next) result notes writes))
+
+-- what is done with two files, if a page of one is asked for or not
+abbrev pub AreBothRead : Bool → Found → Named → Result Outcome ViewFault → List ℕ → Writes → Type 0
+AreBothRead true found named result notes writes = IsRefusedPage result notes writes
+AreBothRead false found named result notes writes = ArePaged found named result notes writes
+
+-- One input is answered, or two in one page.
 pub record IsReadBy (found : Found) (named : Named) (asked : OfInput) (result : Result Outcome ViewFault) (notes : List ℕ) (writes : Writes) : Type 0 where
   pub one : other_among found ≡ None → IfSome named.first (λ bytes. IsAnswered asked bytes result [] notes writes)
-  pub two : IsSome (other_among found) → IsNotOpened result notes writes
-      ⊎ IfSome named.first (λ file. IfSome named.second (λ next. IsPaged (named_file (file_among found) file) (named_file (other_among found) next) result notes writes))
+  pub two : IsSome (other_among found) → AreBothRead (is_kept_page asked) found named result notes writes
 
 -- If reading failed, the file that was not read is known: the first that the words name, or the second if there is one.
 abbrev pub IsUnreadOf : Found → Ended → Type 0

@@ -1,5 +1,5 @@
 -- What is said of an input's faults on standard error.
-use Rattle.std.specs.Prelude.{◌≡◌, ⊤, ℕ, Bool, true, false, List, [], ◌∷◌, Result, Ok, Err}
+use Rattle.std.specs.Prelude.{◌≡◌, ⊤, ℕ, Bool, true, false, List, [], ◌∷◌, Option, Some, None, Result, Ok, Err}
 use Rattle.io_text.specs.declared.fault.DeviceFault.TheVariants.{Read, Write, TooLong, Memory}
 use Rattle.file_faults.specs.Files.{AreRoomFaults, AreTranscriptFaults}
 use Rattle.file_faults.specs.Scripts.{script_faults}
@@ -7,12 +7,13 @@ use Rattle.file_faults.specs.Warnings.{file_warnings}
 use Rattle.view_grade.specs.Goals.{goal_forms}
 use Rattle.view_page.specs.Faults.{AreBothFaults, AreFileFaults, NamedFile}
 use Rattle.view_page.specs.Pages.{kind_of}
+use Rattle.bgview.specs.Answers.{text_of}
 use Rattle.bgview.specs.declared.request.OfInput.{OfInput}
 use Rattle.bgview.specs.declared.request.OfInput.TheVariants.{Live, Whole}
 use Rattle.bgview.specs.declared.request.Request.{Request}
 use Rattle.bgview.specs.declared.request.Request.TheVariants.{Why, Trace, Draw, Page, Transcript, Grade, Sample, Outcomes, Lint}
 use Rattle.bgview.specs.declared.fault.OptionFault.{OptionFault}
-use Rattle.bgview.specs.declared.fault.OptionFault.TheVariants.{Alone, Both, Goal, Inputs, Keeps, Rooms}
+use Rattle.bgview.specs.declared.fault.OptionFault.TheVariants.{Alone, Both, Goal, Inputs, Keeps, Rooms, Second}
 use Rattle.bgview.specs.declared.fault.ViewFault.{ViewFault}
 use Rattle.bgview.specs.declared.fault.ViewFault.TheVariants.{BadInput, BadOption, Device, Incomplete}
 
@@ -58,8 +59,10 @@ abbrev pub AreSaidOfFile : List ℕ → List ℕ → Type 0
 AreSaidOfFile [] said = said ≡ file_warnings []
 AreSaidOfFile (byte ∷ bytes) said = AreFileFaults (kind_of (byte ∷ bytes)) (byte ∷ bytes) said
 
-abbrev pub AreFileNotes : {A : Type 0} → List ℕ → Result A ViewFault → List ℕ → Type 0
-AreFileNotes file result notes = AreSaid (AreSaidOfFile file) result notes
+-- of a file of which a page is made: if its runs are judged by a task of one's own, it is read as a transcript
+abbrev pub ArePageNotes : {A : Type 0} → Option (List ℕ) → List ℕ → Result A ViewFault → List ℕ → Type 0
+ArePageNotes None file result notes = AreSaid (AreSaidOfFile file) result notes
+ArePageNotes (Some text) file result notes = AreSaid (AreTranscriptFaults file) result notes
 
 -- of all faults of two files, in order, each after the name of its file
 abbrev pub AreBothNotes : {A : Type 0} → NamedFile → NamedFile → Result A ViewFault → List ℕ → Type 0
@@ -73,6 +76,7 @@ AreOptionNotes (Keeps fault) old new = new ≡ old
 AreOptionNotes Both old new = new ≡ old
 AreOptionNotes Alone old new = new ≡ old
 AreOptionNotes Rooms old new = new ≡ old
+AreOptionNotes Second old new = new ≡ old
 
 -- of a goal that is not valid
 abbrev pub AreGoalNotes : {A : Type 0} → Result A ViewFault → List ℕ → List ℕ → Type 0
@@ -100,7 +104,7 @@ abbrev pub AreNotesOn : {A : Type 0} → Request → List ℕ → Result A ViewF
 AreNotesOn (Why explaining) input result old new = AreWhyNotes explaining.json input result old new
 AreNotesOn (Trace json) input result old new = AreScriptNotes input result new
 AreNotesOn (Draw style) input result old new = AreScriptNotes input result new
-AreNotesOn Page input result old new = AreFileNotes input result new
+AreNotesOn (Page keeps) input result old new = ArePageNotes (text_of keeps) input result new
 AreNotesOn Transcript input result old new = AreScriptNotes input result new
 AreNotesOn (Grade grading) input result old new = AreGradeNotes input result old new
 AreNotesOn (Sample sampling) input result old new = AreRoomNotes input result new

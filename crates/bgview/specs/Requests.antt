@@ -69,7 +69,7 @@ abbrev pub IsRequestBy : Mode → Option (List ℕ × List Row) → Request → 
 IsRequestBy modes.Why found (Why explaining) = IsExplainingAmong found explaining
 IsRequestBy modes.Trace found (Trace json) = json ≡ json_among found
 IsRequestBy modes.Draw found (Draw style) = IsStyleAmong found style
-IsRequestBy modes.Page found Page = ⊤
+IsRequestBy modes.Page found (Page keeps) = option_map (λ text. text.now) keeps ≡ value_among (codes "keeps") found
 IsRequestBy modes.Transcript found Transcript = ⊤
 IsRequestBy modes.Grade found (Grade grading) = IsGradingAmong found grading
 IsRequestBy modes.Sample found (Sample sampling) = IsSamplingAmong found sampling

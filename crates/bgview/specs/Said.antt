@@ -13,7 +13,7 @@ use Rattle.bgview_command_line.specs.declared.words.Mode.{Mode}
 use Rattle.bgview_command_line.specs.declared.words.Mode.TheVariants.{Draw, Transcript}
 use Rattle.bgview.specs.Unread.{unread_note}
 use Rattle.bgview.specs.declared.ended.Ended.{Ended}
-use Rattle.bgview.specs.declared.fault.OptionFault.TheVariants.{Alone, Both, Goal, Inputs, Keeps, Rooms}
+use Rattle.bgview.specs.declared.fault.OptionFault.TheVariants.{Alone, Both, Goal, Inputs, Keeps, Rooms, Second}
 use Rattle.bgview.specs.declared.fault.ViewFault.{ViewFault}
 use Rattle.bgview.specs.declared.fault.ViewFault.TheVariants.{BadInput, BadOption, Device, Incomplete}
 use Rattle.bgview.specs.declared.unread.Unread.{Unread}
@@ -42,6 +42,7 @@ fault_words (BadOption (Keeps fault)) = line_fault_text fault
 fault_words (BadOption Both) = codes "--inputs and --keeps can't be given together"
 fault_words (BadOption Alone) = codes "--outcome can't be given together with --task, --inputs or --keeps"
 fault_words (BadOption Rooms) = codes "--rooms can't be given together with --top, --outcome, --task, --inputs or --keeps"
+fault_words (BadOption Second) = codes "--keeps can't be given together with a second file"
 
 -- the file that was not read, and why
 abbrev pub unread_text : Option Unread → List ℕ

@@ -26,6 +26,8 @@ pub enum OptionFault {
     Alone,
     /// All schedules of the simulators are searched, and something is asked for that is none of their outcomes.
     Rooms,
+    /// A page of two files is asked for, and so is whether runs keep a task of one's own.
+    Second,
 }
 
 /// Why an answer was not written whole.

@@ -6,7 +6,7 @@ ghost use Rattle.std.specs.Prelude.{◌≡◌, ◌≤◌, IfSome, List, [], ℕ,
 ghost use Rattle.std.specs.Io.KnownBytes.{Appends};
 ghost use Rattle.clap.specs.Words.{subcommand_rows_of};
 ghost use Rattle.bgview_command_line.specs.CommandLine.{codes_among, other_among};
-ghost use Rattle.bgview.specs.Endings.{IsAnswered, IsEnding, IsInputDone, IsReadBy, IsStatusFor, IsUnreadOf, named_by};
+ghost use Rattle.bgview.specs.Endings.{IsAnswered, IsEnding, IsInputDone, IsReadBy, IsStatusFor, IsUnreadOf, is_kept_page, named_by};
 ghost use Rattle.bgview.specs.Faults.{AreFaultsSaid};
 
 mod ended;
@@ -23,11 +23,11 @@ use bgview_command_line::{line_in, read_words};
 use clap::ArgMatches;
 use ended::Ended;
 use engine::{NamedReader, answer_io, fault_io, live_io, pages_io};
-use fault::ViewFault;
+use fault::{OptionFault, ViewFault};
 use io_text::{Device, Text};
 use program_io::{Inputs, unread_status, words, words_status};
 use progress::{Counter, Parts, has_terminal};
-use request::{OfInput, Requested, requested_in};
+use request::{OfInput, Request, Requested, requested_in};
 use room_files::Outcome;
 use run_search::Progress;
 use said::say_end;
@@ -156,32 +156,44 @@ fn with_other<'a, H: Threads + Sync, I: Inputs, R: Read + Drop, W: Write, P: Pro
     ensures unread { IsUnreadOf (subcommand_rows_of matches.now) result }
 {
     let line = line_in(matches);
-    match line.other {
-        None => {
-            let result = answered(system, input, writer, asked, aside);
-            Ended::of(system.inputs, result, line.file)
+    let Some(path) = line.other else {
+        let result = answered(system, input, writer, asked, aside);
+        return Ended::of(system.inputs, result, line.file);
+    };
+    if is_kept_page(asked) {
+        let refused = Err(ViewFault::BadOption(OptionFault::Second));
+        return Ended::of(system.inputs, refused, line.file);
+    }
+    match system.inputs.open(path) {
+        Ok(next) => {
+            let mut first = NamedReader {
+                name: line.file.unwrap_or("-"),
+                reader: Device::new(input),
+            };
+            let mut second = NamedReader {
+                name: path,
+                reader: Device::new(next),
+            };
+            let notes = &mut aside.notes;
+            let result = pages_io(system.alloc, &mut first, &mut second, writer, notes);
+            let unread = if first.reader.has_failed() {
+                line.file
+            } else {
+                Some(path)
+            };
+            Ended::of(system.inputs, result, unread)
         }
-        Some(path) => match system.inputs.open(path) {
-            Ok(next) => {
-                let mut first = NamedReader {
-                    name: line.file.unwrap_or("-"),
-                    reader: Device::new(input),
-                };
-                let mut second = NamedReader {
-                    name: path,
-                    reader: Device::new(next),
-                };
-                let notes = &mut aside.notes;
-                let result = pages_io(system.alloc, &mut first, &mut second, writer, notes);
-                let unread = if first.reader.has_failed() {
-                    line.file
-                } else {
-                    Some(path)
-                };
-                Ended::of(system.inputs, result, unread)
-            }
-            Err(error) => Ended::not_opened(path, &error),
-        },
+        Err(error) => Ended::not_opened(path, &error),
+    }
+}
+
+/// Whether a page is asked for whose runs are judged by a task of one's own.
+fn is_kept_page(asked: &OfInput<'_>) -> bool
+    ensures { result ≡ is_kept_page asked.now }
+{
+    match asked {
+        OfInput::Whole(Request::Page { keeps }) => keeps.is_some(),
+        _ => false,
     }
 }
 

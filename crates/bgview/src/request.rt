@@ -72,8 +72,8 @@ pub enum Request<'a> {
     Trace { json: bool },
     /// A picture of a script's rooms.
     Draw(Style),
-    /// A page that steps through a script or a transcript.
-    Page,
+    /// A page that steps through a script or a transcript; or through a transcript whose runs are judged by a task of one's own, which is text.
+    Page { keeps: Option<&'a str> },
     /// The rooms of a script as a transcript.
     Transcript,
     /// Whether a script reaches a goal.
@@ -115,7 +115,9 @@ pub fn requested_in<'a>(matches: &ArgMatches<'a>) -> Requested<'a>
         Mode::Why => Request::Why(explaining_in(matches)),
         Mode::Trace => Request::Trace { json },
         Mode::Draw => Request::Draw(style_in(matches)),
-        Mode::Page => Request::Page,
+        Mode::Page => Request::Page {
+            keeps: text_if_any(matches, "keeps"),
+        },
         Mode::Transcript => Request::Transcript,
         Mode::Grade => Request::Grade(grading_in(matches)),
         Mode::Sample => Request::Sample(sampling_in(matches)),

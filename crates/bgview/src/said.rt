@@ -88,6 +88,12 @@ fn say_words<E: Write>(errors: &mut Device<E>, fault: ViewFault) -> Result<(), D
             errors,
             b"--rooms can't be given together with --top, --outcome, --task, --inputs or --keeps",
         ),
+        ViewFault::BadOption(OptionFault::Second) => {
+            write_output(
+                errors,
+                b"--keeps can't be given together with a second file",
+            )
+        }
     }
 }
 

@@ -12,13 +12,13 @@ ghost use Rattle.decision_tasks.specs.Tasks.{task_in};
 ghost use Rattle.view_outcomes.specs.Values.{values_in};
 ghost use Rattle.view_outcomes.specs.declared.search.Search.{Search as SearchValue};
 ghost use Rattle.view_page.specs.Pages.{fault_in};
-ghost use Rattle.bgview.specs.Answers.{AreRunsShown, Ends, EndsRequest, IsExplainedBy, IsGradeFor, IsSamplingShown, IsSearchFor, IsSearchShown, IsShown, IsTaskOf, IsWhole, IsWhyShown, asked_alone, goal_fault_in, goal_text, grade_fault, is_json, is_more_asked, is_more_of_rooms, judged_by, keeps_fault, keeps_fault_in, keeps_text, kept_by, room_plan, rooms_fault, runs_fault, sampled_by, sampling_fault, search_fault, searching_fault, values_fault_in, values_text};
+ghost use Rattle.bgview.specs.Answers.{AreRunsShown, Ends, EndsRequest, IsExplainedBy, IsGradeFor, IsPageShown, IsSamplingShown, IsSearchFor, IsSearchShown, IsShown, IsTaskOf, IsWhole, IsWhyShown, asked_alone, goal_fault_in, goal_text, grade_fault, is_json, is_more_asked, is_more_of_rooms, judged_by, keeps_fault, keeps_fault_in, keeps_text, kept_by, page_fault, room_plan, rooms_fault, runs_fault, sampled_by, sampling_fault, search_fault, searching_fault, text_of, values_fault_in, values_text};
 ghost use Rattle.view_rooms.specs.Blocks.{IsRoomsFor};
 ghost use Rattle.view_sample.specs.Keeping.{IsKeptSample};
 ghost use Rattle.view_sample.specs.Sample.{IsSampleFor};
 ghost use Rattle.view_trace.specs.Trace.{IsTraceIn};
 ghost use Rattle.view_why.specs.Why.{IsExplanationIn};
-ghost use Rattle.bgview.specs.Notes.{AreGoalNotes, AreGradeNotes, AreLintNotes, AreNotes, AreNotesOn, AreRoomNotes, AreSaidOfFile, AreWhyNotes};
+ghost use Rattle.bgview.specs.Notes.{AreGoalNotes, AreGradeNotes, AreLintNotes, AreNotes, AreNotesOn, ArePageNotes, AreRoomNotes, AreSaidOfFile, AreWhyNotes};
 
 use crate::fault::{OptionFault, ViewFault};
 use crate::request::{Explaining, Grading, Request, Sampling, Searching};
@@ -35,7 +35,7 @@ use std::thread::Threads;
 use view_draw::draw;
 use view_grade::{Goal, goal_forms, grade, grade_kept, read_goal};
 use view_outcomes::{Asked, Form, Search, read_values, search_blocks};
-use view_page::{faults_of, page};
+use view_page::{faults_of, page, page_of_kept};
 use view_rooms::{RoomPlan, search_rooms};
 use view_sample::{KeptPlan, sample_blocks, sample_kept};
 use view_trace::{trace, trace_json};
@@ -65,10 +65,7 @@ pub fn show<H: Threads + Sync, I, P: Progress>(
             aside.notes = script_faults(alloc, input)?;
             Ok(draw(alloc, *style, input)?)
         }
-        Request::Page => {
-            aside.notes = said_of_file(alloc, input)?;
-            Ok(page(alloc, input)?)
-        }
+        Request::Page { keeps } => paged(alloc, *keeps, input, &mut aside.notes),
         Request::Transcript => {
             aside.notes = script_faults(alloc, input)?;
             Ok(transcribe(alloc, input)?)
@@ -103,6 +100,27 @@ fn linted(alloc: Global, json: bool, input: &[u8], notes: &mut Text) -> Result<P
     }
     *notes = warnings_of(alloc, input)?;
     Ok(whole(lint(alloc, input)?))
+}
+
+/// A page of a file, unless the task of one's own by which runs are judged is not valid. What is said of the file becomes `notes`.
+fn paged(
+    alloc: Global,
+    keeps: Option<&str>,
+    input: &[u8],
+    notes: &mut Text,
+) -> Result<PlayText, ViewFault>
+    requires { length input.now ≤ most_bytes }
+    ensures shown { IfOk result (λ shown. IsPageShown (text_of keeps.entry) input.now shown.ending shown.output) }
+    ensures err { IfErr result (Ends (page_fault (text_of keeps.entry) input.now) (keeps_fault (text_of keeps.entry))) }
+    ensures notes { ArePageNotes (text_of keeps.entry) input.now result notes.new }
+{
+    let Some(text) = keeps else {
+        *notes = said_of_file(alloc, input)?;
+        return Ok(page(alloc, input)?);
+    };
+    let task = read_task(alloc, text)?;
+    *notes = transcript_faults(alloc, input)?;
+    Ok(whole(page_of_kept(alloc, input, &task)?))
 }
 
 /// What is said of a file of which a page is made: its faults, or that it is empty.

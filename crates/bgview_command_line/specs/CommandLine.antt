@@ -34,9 +34,9 @@ keeps_rule = record (new_rule (codes "keeps")) { long = Some (codes "keeps"); va
 abbrev pub why_app : App
 why_app = with_rule (telling_app (codes "why")) keeps_rule
 
--- the subcommand `page`, which takes one file or two
+-- the subcommand `page`, which takes one file or two, and a text
 abbrev pub page_app : App
-page_app = with_rule (file_app (codes "page")) (new_rule (codes "OTHER"))
+page_app = with_rule (with_rule (file_app (codes "page")) (new_rule (codes "OTHER"))) keeps_rule
 
 abbrev pub scale_rule : Rule
 scale_rule = number_rule (codes "scale") 10 1000

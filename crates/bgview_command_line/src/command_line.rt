@@ -116,7 +116,7 @@ fn turns_option<'a>(alloc: Global) -> Arg<'a>
         .help("Draws a box for each stretch of a turn, not for each step")
 }
 
-/// The subcommand `page`, which takes one file or two.
+/// The subcommand `page`, which takes one file or two, and a text.
 fn page_command<'a>(alloc: Global) -> Result<Command<'a>, AllocError>
     ensures app { IfOk result (λ command. app_of command ≡ page_app) }
     ensures local { IfOk result (λ command. (out-Command command).has_globals ≡ false) }
@@ -125,11 +125,15 @@ fn page_command<'a>(alloc: Global) -> Result<Command<'a>, AllocError>
         alloc,
         "page",
         "Makes a page that steps through a script or a transcript in a browser, or through two next to each other, as HTML",
-        "bgview page [FILE [OTHER]]",
+        "bgview page [--keeps TASK] [FILE [OTHER]]",
         "The script or transcript; without it, standard input is read",
     )?;
     let other = Arg::new(alloc, "OTHER").help("A second one, which is shown next to the first");
-    page.arg(other)
+    let with_other = page.arg(other)?;
+    with_other.arg(keeps_option(
+        alloc,
+        "Reads the file as a transcript, and shows in addition what `bgview why --keeps` says of it; can't be given together with a second file",
+    ))
 }
 
 /// The subcommand `transcript`.

@@ -8,6 +8,8 @@ use Rattle.fault_words.specs.Faults.{fault_line, faults_outcome}
 use Rattle.file_faults.specs.Warnings.{file_warnings}
 use Rattle.io_text.specs.Reading.{most_bytes}
 use Rattle.protocol_lang.specs.Faults.{code_of}
+use Rattle.protocol_lang.specs.Trees.{Tree}
+use Rattle.room_files.specs.Inputs.{input_says}
 use Rattle.room_files.specs.Faults.{text_code}
 use Rattle.room_files.specs.declared.outcome.Outcome.{Outcome}
 use Rattle.room_files.specs.declared.outcome.Outcome.TheVariants.{AllWell, SomeRefused}
@@ -30,7 +32,9 @@ use Rattle.view_outcomes.specs.declared.search.Search.{Search}
 use Rattle.view_outcomes.specs.declared.values.TheConstants.{MAX_VALUES}
 use Rattle.view_outcomes.specs.declared.values.ValuesFault.{ValuesFault}
 use Rattle.view_outcomes.specs.declared.values.ValuesFault.TheVariants.{NoNumber, Repeated, TooMany}
+use Rattle.view_rooms.specs.declared.plan.RoomPlan.{RoomPlan}
 use Rattle.bgview_exports.specs.declared.asked.SamplePlan.{SamplePlan}
+use Rattle.bgview_exports.specs.declared.asked.SearchPlan.{SearchPlan}
 use Rattle.bgview_exports.specs.declared.given.NoAnswer.{NoAnswer}
 use Rattle.bgview_exports.specs.declared.given.NoAnswer.TheVariants.{TooLong, Fault, BadGoal, BadValues, BadTask}
 use Rattle.bgview_exports.specs.declared.given.CallResult.{CallResult}
@@ -97,6 +101,28 @@ IsTaskJudged rooms task nodes form (Err (BadGoal fault)) = ⊥
 IsTaskJudged rooms task nodes form (Err (BadValues fault)) = ⊥
 IsTaskJudged rooms task nodes form (Err (BadTask fault)) = (length rooms ≤ most_bytes) × (task_in task ≡ Err fault)
 
+-- the text says no task, or an allocation failed
+abbrev pub IsNoTask : List ℕ → NoAnswer → Type 0
+IsNoTask task (BadTask fault) = task_in task ≡ Err fault
+IsNoTask task (Fault fault) = fault ≡ Memory
+IsNoTask task TooLong = ⊥
+IsNoTask task (BadGoal fault) = ⊥
+IsNoTask task (BadValues fault) = ⊥
+
+-- a task that is not valid hides the transcript's fault
+abbrev pub IsJudgedFault : List ℕ → List ℕ → InputFault → Type 0
+IsJudgedFault transcript task (BadInput line fault) = IsOk (task_in task) × (input_says transcript ≡ Err (line, fault))
+IsJudgedFault transcript task Memory = ⊤
+
+-- What is said of a transcript whose runs are judged by the task that a text says; or why there is no answer, which may also be that it says none.
+abbrev pub IsJudgedWith : List ℕ → List ℕ → (List Tree → Outcome → List ℕ → Type 0) → Result PlayText NoAnswer → Type 0
+IsJudgedWith transcript task shown (Ok text) = (length transcript ≤ most_bytes) × (lines : List Tree) × (task_in task ≡ Ok lines) × IsComplete (shown lines) text.ending text.output
+IsJudgedWith transcript task shown (Err (Fault fault)) = (length transcript ≤ most_bytes) × IsJudgedFault transcript task fault
+IsJudgedWith transcript task shown (Err TooLong) = most_bytes < length transcript
+IsJudgedWith transcript task shown (Err (BadGoal fault)) = ⊥
+IsJudgedWith transcript task shown (Err (BadValues fault)) = ⊥
+IsJudgedWith transcript task shown (Err (BadTask fault)) = (length transcript ≤ most_bytes) × (task_in task ≡ Err fault)
+
 -- the line of the fault of this number
 abbrev pub IsFaultSaid : ℕ → Outcome → List ℕ → Type 0
 IsFaultSaid number outcome output = (output ≡ flat_map fault_line (decimal number ∷ [])) × (outcome ≡ faults_outcome (decimal number ∷ []))
@@ -123,6 +149,10 @@ plan_of plan = record {
   json = plan.json;
   outcome = number_unless_largest plan.outcome;
 }
+
+-- how all schedules of rooms are searched, as C says it
+abbrev pub room_plan_of : SearchPlan → RoomPlan
+room_plan_of plan = record { crashes = number_unless_largest plan.crashes; nodes = plan.nodes; brief = plan.brief; json = plan.json }
 
 -- ---- what is said of it
 

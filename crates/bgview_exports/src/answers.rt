@@ -1,5 +1,5 @@
 //! What each mode answers to inputs of any length.
-ghost use Rattle.std.specs.Prelude.{◌≡◌, ◌<◌, ◌≤◌, ◌∷◌, [], Ok, None, false, IfErr, IsOk, OnOk, length};
+ghost use Rattle.std.specs.Prelude.{◌≡◌, ◌<◌, ◌≤◌, ◌∷◌, [], Ok, None, false, IfErr, IfOk, IsOk, OnOk, length};
 ghost use Rattle.io_text.specs.Reading.{most_bytes};
 ghost use Rattle.file_faults.specs.Lint.{IsLintFor};
 ghost use Rattle.file_verdicts.specs.Check.{IsOutputFor};
@@ -9,12 +9,15 @@ ghost use Rattle.script_play.specs.Play.{IsPlayFor};
 ghost use Rattle.script_play.specs.Script.{script_says};
 ghost use Rattle.view_draw.specs.Drawn.{IsDrawn};
 ghost use Rattle.view_outcomes.specs.Blocks.{IsOutcomesFor};
-ghost use Rattle.view_page.specs.Pages.{IsFaultOf, IsPageFor, fault_among};
+ghost use Rattle.decision_tasks.specs.Tasks.{task_in};
+ghost use Rattle.view_page.specs.Pages.{IsFaultOf, IsKeptPage, IsPageFor, fault_among};
+ghost use Rattle.view_rooms.specs.Blocks.{IsRoomsFor};
 ghost use Rattle.view_sample.specs.Sample.{IsSampleFor};
 ghost use Rattle.view_trace.specs.Trace.{IsTraceIn};
 ghost use Rattle.view_transcript.specs.Transcripts.{IsTranscribed};
+ghost use Rattle.view_why.specs.Keeping.{IsKeptExplanation};
 ghost use Rattle.view_why.specs.Why.{IsExplanationIn};
-ghost use Rattle.bgview_exports.specs.Calls.{AreInputsJudged, AreWarningsOf, IsAnswerTo, IsComplete, IsFaultSaid, IsGradeOf, IsOutOfMemory, IsTaskJudged, number_unless_largest};
+ghost use Rattle.bgview_exports.specs.Calls.{AreInputsJudged, AreWarningsOf, IsAnswerTo, IsComplete, IsFaultSaid, IsGradeOf, IsJudgedWith, IsNoTask, IsOutOfMemory, IsTaskJudged, number_unless_largest};
 ghost use Rattle.bgview_exports.specs.declared.given.NoAnswer.TheVariants.{TooLong};
 
 use crate::asked::number_unless_largest;
@@ -34,11 +37,12 @@ use std::alloc::Global;
 use view_draw::draw;
 use view_grade::{grade, read_goal};
 use view_outcomes::{Asked, Form, Search, read_values, search_blocks};
-use view_page::page;
+use view_page::{page, page_of_kept};
+use view_rooms::{RoomPlan, search_rooms};
 use view_sample::sample_blocks;
 use view_trace::{trace, trace_json};
 use view_transcript::transcribe;
-use view_why::{explain, explain_json};
+use view_why::{explain, explain_json, explain_kept};
 
 /// Whether an input has at most 16777216 bytes, or that it is too long.
 fn fits(input: &[u8]) -> Result<(), NoAnswer>
@@ -100,6 +104,31 @@ pub fn explained(alloc: Global, input: &[u8], json: bool) -> Result<PlayText, No
     Ok(complete(explain(alloc, input)?))
 }
 
+/// Judges a transcript, and says why a room's events are no run, and whether each run keeps the task that a text says; as text or as JSON.
+pub fn explained_with(
+    alloc: Global,
+    transcript: &[u8],
+    task: &[u8],
+    json: bool,
+) -> Result<PlayText, NoAnswer>
+    ensures { IsJudgedWith transcript.now task.now (λ lines. IsKeptExplanation json lines transcript.now) result }
+{
+    fits(transcript)?;
+    let task = task_in(alloc, task)?;
+    Ok(complete(explain_kept(alloc, transcript, json, &task)?))
+}
+
+/// The task that a text says.
+fn task_in(alloc: Global, text: &[u8]) -> Result<DecisionTask, NoAnswer>
+    ensures task { IfOk result (λ task. task_in text.now ≡ Ok task) }
+    ensures err { IfErr result (IsNoTask text.now) }
+{
+    match DecisionTask::read(alloc, text)? {
+        Ok(task) => Ok(task),
+        Err(fault) => Err(NoAnswer::BadTask(fault)),
+    }
+}
+
 /// Explains all faults of a file.
 pub fn linted(alloc: Global, file: &[u8]) -> Result<PlayText, NoAnswer>
     ensures { IsAnswerTo file.now (IsComplete (IsLintFor file.now)) IsOutOfMemory result }
@@ -158,10 +187,8 @@ pub fn judged_by_task(
     ensures { IsTaskJudged rooms.now task.now nodes form result }
 {
     fits(rooms)?;
-    match DecisionTask::read(alloc, task)? {
-        Ok(task) => searched(alloc, rooms, &within(nodes, form, Asked::Keeps(&task))),
-        Err(fault) => Err(NoAnswer::BadTask(fault)),
-    }
+    let task = task_in(alloc, task)?;
+    searched(alloc, rooms, &within(nodes, form, Asked::Keeps(&task)))
 }
 
 /// The search that asks this of each room, in which at most `crashes` processes stop, or all but one if it is 4294967295.
@@ -188,6 +215,14 @@ fn within(nodes: u32, form: Form, asked: Asked<'_>) -> Search<'_>
         form,
         asked,
     }
+}
+
+/// Searches all schedules of the simulators of each room of a file.
+pub fn rooms_searched(alloc: Global, rooms: &[u8], plan: &RoomPlan) -> Result<PlayText, NoAnswer>
+    ensures { IsAnswerTo rooms.now (IsComplete (IsRoomsFor plan.now rooms.now)) IsOutOfMemory result }
+{
+    fits(rooms)?;
+    Ok(complete(search_rooms(alloc, rooms, plan, &mut Silent)?))
 }
 
 /// Runs each room of a file by random schedules, on this thread, and counts the outcomes.
@@ -220,6 +255,15 @@ pub fn paged(alloc: Global, file: &[u8]) -> Result<PlayText, NoAnswer>
 {
     fits(file)?;
     Ok(page(alloc, file)?)
+}
+
+/// Makes a page of a transcript whose runs are judged by the task that a text says.
+pub fn paged_with(alloc: Global, transcript: &[u8], task: &[u8]) -> Result<PlayText, NoAnswer>
+    ensures { IsJudgedWith transcript.now task.now (λ lines. IsKeptPage lines transcript.now) result }
+{
+    fits(transcript)?;
+    let task = task_in(alloc, task)?;
+    Ok(complete(page_of_kept(alloc, transcript, &task)?))
 }
 
 /// Grades a script by the goal that a text says, with at most this number of commands `step` and `crash` if there is one.

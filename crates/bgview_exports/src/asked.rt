@@ -1,8 +1,9 @@
 //! What a caller asks of a mode, in numbers that C has.
 ghost use Rattle.std.specs.Prelude.{◌≡◌};
-ghost use Rattle.bgview_exports.specs.Calls.{number_unless_largest, plan_of};
+ghost use Rattle.bgview_exports.specs.Calls.{number_unless_largest, plan_of, room_plan_of};
 
 use room_sample::Plan;
+use view_rooms::RoomPlan;
 
 /// How rooms are sampled, as a struct of C.
 #[repr(C)]
@@ -43,6 +44,32 @@ pub fn plan_of(plan: &SamplePlan) -> Plan
         top: number_unless_largest(plan.top),
         json: plan.json,
         outcome: number_unless_largest(plan.outcome),
+    }
+}
+
+/// How all schedules of rooms are searched, as a struct of C.
+#[repr(C)]
+#[derive(Clone, Copy, Debug)]
+pub struct SearchPlan {
+    /// At most this many simulators crash, or all but one if it is 4294967295.
+    pub crashes: u32,
+    /// How many nodes of a room are searched at most.
+    pub nodes: u32,
+    /// Whether scripts are left out, in JSON the schedules.
+    pub brief: bool,
+    /// Whether the outcomes are written as JSON.
+    pub json: bool,
+}
+
+/// The same plan.
+pub fn room_plan_of(plan: &SearchPlan) -> RoomPlan
+    ensures { result ≡ room_plan_of plan.now }
+{
+    RoomPlan {
+        crashes: number_unless_largest(plan.crashes),
+        nodes: plan.nodes,
+        brief: plan.brief,
+        json: plan.json,
     }
 }
 

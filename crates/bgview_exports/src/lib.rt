@@ -14,23 +14,26 @@ ghost use Rattle.view_draw.specs.Drawn.{IsDrawn};
 ghost use Rattle.view_outcomes.specs.Blocks.{IsOutcomesFor};
 ghost use Rattle.view_outcomes.specs.declared.search.Asked.TheVariants.{Outcomes, Task};
 ghost use Rattle.view_outcomes.specs.declared.search.Form.TheVariants.{Json, Text as TextForm};
-ghost use Rattle.view_page.specs.Pages.{IsFaultOf, IsPageFor, fault_among};
+ghost use Rattle.view_page.specs.Pages.{IsFaultOf, IsKeptPage, IsPageFor, fault_among};
+ghost use Rattle.view_rooms.specs.Blocks.{IsRoomsFor};
 ghost use Rattle.view_sample.specs.Sample.{IsSampleFor};
 ghost use Rattle.view_trace.specs.Trace.{IsTraceIn};
 ghost use Rattle.view_transcript.specs.Transcripts.{IsTranscribed};
+ghost use Rattle.view_why.specs.Keeping.{IsKeptExplanation};
 ghost use Rattle.view_why.specs.Why.{IsExplanationIn};
-ghost use Rattle.bgview_exports.specs.Calls.{AreInputsJudged, AreWarningsOf, IsAnswerTo, IsComplete, IsFaultSaid, IsGiven, IsGradeOf, IsOutOfMemory, IsTaskJudged, number_unless_largest, plan_of};
+ghost use Rattle.bgview_exports.specs.Calls.{AreInputsJudged, AreWarningsOf, IsAnswerTo, IsComplete, IsFaultSaid, IsGiven, IsGradeOf, IsJudgedWith, IsOutOfMemory, IsTaskJudged, number_unless_largest, plan_of, room_plan_of};
 
 mod answers;
 mod asked;
 mod given;
 
 use answers::{
-    checked, drawn, explained, graded, judged_by_task, judged_with_inputs, linted, paged, played,
-    said, sampled, search_of, searched, traced, transcribed, warned,
+    checked, drawn, explained, explained_with, graded, judged_by_task, judged_with_inputs, linted,
+    paged, paged_with, played, rooms_searched, said, sampled, search_of, searched, traced,
+    transcribed, warned,
 };
-pub use asked::SamplePlan;
-use asked::{number_unless_largest, plan_of};
+pub use asked::{SamplePlan, SearchPlan};
+use asked::{number_unless_largest, plan_of, room_plan_of};
 use given::give;
 pub use given::{CallResult, NoAnswer};
 use run_picture::Style;
@@ -93,6 +96,34 @@ pub extern "C" fn bgview_why(
         output.old output.new ended.new }
 {
     *ended = give(&explained(alloc, transcript, json), output);
+}
+
+/// Judges a transcript, says why a room's events are no run, and whether each run keeps a task of one's own, as `bgview why --keeps`.
+#[unsafe(no_mangle)]
+pub extern "C" fn bgview_why_with(
+    alloc: Global,
+    transcript: &[u8],
+    task: &[u8],
+    output: &mut [u8],
+    ended: &mut CallResult,
+)
+    ensures { IsGiven (IsJudgedWith transcript.now task.now (λ lines. IsKeptExplanation false lines transcript.now)) output.old output.new ended.new }
+{
+    *ended = give(&explained_with(alloc, transcript, task, false), output);
+}
+
+/// The same as JSON: an object for each room, as `bgview why --keeps --json`.
+#[unsafe(no_mangle)]
+pub extern "C" fn bgview_why_with_json(
+    alloc: Global,
+    transcript: &[u8],
+    task: &[u8],
+    output: &mut [u8],
+    ended: &mut CallResult,
+)
+    ensures { IsGiven (IsJudgedWith transcript.now task.now (λ lines. IsKeptExplanation true lines transcript.now)) output.old output.new ended.new }
+{
+    *ended = give(&explained_with(alloc, transcript, task, true), output);
 }
 
 /// Explains all faults of a file of rooms, a script or a transcript, as `bgview lint`.
@@ -257,6 +288,20 @@ pub extern "C" fn bgview_keeps_json(
     *ended = give(&judged, output);
 }
 
+/// Searches all schedules of the simulators of each room of a file, as `bgview outcomes --rooms`.
+#[unsafe(no_mangle)]
+pub extern "C" fn bgview_rooms(
+    alloc: Global,
+    rooms: &[u8],
+    plan: &SearchPlan,
+    output: &mut [u8],
+    ended: &mut CallResult,
+)
+    ensures { IsGiven (IsAnswerTo rooms.now (IsComplete (IsRoomsFor (room_plan_of plan.now) rooms.now)) IsOutOfMemory) output.old output.new ended.new }
+{
+    *ended = give(&rooms_searched(alloc, rooms, &room_plan_of(plan)), output);
+}
+
 /// Runs each room of a file by random schedules on this thread, and counts the outcomes, as `bgview sample`.
 #[unsafe(no_mangle)]
 pub extern "C" fn bgview_sample(
@@ -309,6 +354,20 @@ pub extern "C" fn bgview_page(alloc: Global, file: &[u8], output: &mut [u8], end
     ensures { IsGiven (IsAnswerTo file.now (IsPageFor (file.now ∷ [])) (IsFaultOf (fault_among (file.now ∷ [])))) output.old output.new ended.new }
 {
     *ended = give(&paged(alloc, file), output);
+}
+
+/// Makes a page that steps through a transcript, and says whether its runs keep a task of one's own, as `bgview page --keeps`.
+#[unsafe(no_mangle)]
+pub extern "C" fn bgview_page_with(
+    alloc: Global,
+    transcript: &[u8],
+    task: &[u8],
+    output: &mut [u8],
+    ended: &mut CallResult,
+)
+    ensures { IsGiven (IsJudgedWith transcript.now task.now (λ lines. IsKeptPage lines transcript.now)) output.old output.new ended.new }
+{
+    *ended = give(&paged_with(alloc, transcript, task), output);
 }
 
 /// Says whether the last report of a script satisfies a goal, as `bgview grade`. The script may have at most `most` commands `step` and `crash`, or any number of

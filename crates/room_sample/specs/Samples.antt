@@ -98,9 +98,17 @@ IsSample spec plan outcomes = IsSampleOf spec plan plan.schedules outcomes
 abbrev pub AreAmongAll : RoomSpec → List Counted → Type 0
 AreAmongAll spec outcomes = All (λ one. IsRunOutcome spec (processes spec) (ends_of one.states)) outcomes
 
--- the most frequent are first
-abbrev pub AreMostFirst : List Counted → Type 0
-AreMostFirst outcomes = (k : ℕ) (d : Counted) → k + 1 < length outcomes → (slice_index_or outcomes (k + 1) d).times ≤ (slice_index_or outcomes k d).times
+-- the place of the schedule of a number in a plan that begins with another one: after the greatest number comes 0
+abbrev pub place_of : ℕ → ℕ → ℕ
+place_of from number = (number + (2 ^ 32 - from)) % 2 ^ 32
+
+-- one outcome came more often than another one, or as often and by no later schedule first
+abbrev pub GoesBefore : ℕ → Counted → Counted → Type 0
+GoesBefore from one next = (next.times < one.times) ⊎ ((next.times ≡ one.times) × (place_of from one.first ≤ place_of from next.first))
+
+-- the most frequent are first, and of those that came as often the one that came first
+abbrev pub AreMostFirst : ℕ → List Counted → Type 0
+AreMostFirst from outcomes = (k : ℕ) (d : Counted) → k + 1 < length outcomes → GoesBefore from (slice_index_or outcomes k d) (slice_index_or outcomes (k + 1) d)
 
 -- ---- how they are kept
 

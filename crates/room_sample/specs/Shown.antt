@@ -11,16 +11,18 @@ use Rattle.room_sample.specs.declared.stretch.Stretch.{Stretch}
 pub record KeepsOutcome (spec : RoomSpec) (crashes : ℕ) (states : List ProcessState) (old new : List Stretch) : Type 0 where
   pub keeps : IsOutcome spec crashes old states → IsOutcome spec crashes new states
 
--- an outcome as it is shown: the states of the processes, how often they came, and a schedule
+-- an outcome as it is shown: the states of the processes, how often they came, the number of the first schedule that led to them, and a schedule
 pub record Shown : Type 0 where
   pub states : List ProcessState
   pub times : ℕ
+  pub first : ℕ
   pub schedule : List Stretch
 
--- The same states, as often; and if schedules are shown, this one leads to the states.
+-- The same states, as often, and first by the same schedule; and if schedules are shown, this one leads to the states.
 pub record IsShown (spec : RoomSpec) (crashes : ℕ) (scripts : Bool) (one : Counted) (shown : Shown) : Type 0 where
   pub states_are : shown.states ≡ one.states
   pub times_are : shown.times ≡ one.times
+  pub first_is : shown.first ≡ one.first
   pub leads : scripts ≡ true → IsOutcome spec crashes shown.schedule shown.states
 
 -- each in a list
@@ -40,4 +42,4 @@ IsShownIf spec crashes scripts (Some one) None = ⊥
 -- ---- how they are kept
 
 abbrev pub shown_of : Example → Shown
-shown_of example = record { states = example.states.items; times = example.times; schedule = example.schedule.items }
+shown_of example = record { states = example.states.items; times = example.times; first = example.first; schedule = example.schedule.items }

@@ -21,6 +21,8 @@ pub struct Example {
     pub states: States,
     /// By how many schedules the outcome came.
     pub times: u32,
+    /// The number of the first schedule that led to it.
+    pub first: u32,
     /// A schedule that leads to it: its first one, made short. It is empty if schedules are left out.
     pub schedule: Vec<Stretch>,
 }
@@ -147,6 +149,7 @@ fn make_example(
     Ok(Example {
         states: states.clone()?,
         times: outcome.times,
+        first: outcome.first,
         schedule,
     })
 }

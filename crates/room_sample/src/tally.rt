@@ -1,6 +1,6 @@
 //! Outcomes, and how often each came.
 ghost use Rattle.std.specs.Prelude.{◌≡◌, ◌<◌, [], IfOk, IsPermutation, OnErr, OnOk, length, map, option_map, slice_get};
-ghost use Rattle.room_sample.specs.Samples.{AreMostFirst, counted_of};
+ghost use Rattle.room_sample.specs.Samples.{AreMostFirst, counted_of, place_of};
 ghost use Rattle.room_sample.specs.Groups.{ArePatterns, grouped, joined, without_holder};
 ghost use Rattle.room_sample.specs.Parts.{added, added_all, more_at};
 
@@ -111,17 +111,17 @@ impl Tally {
         Ok(())
     }
 
-    /// Puts those first that came most often.
+    /// Puts those first that came most often, and of those that came as often the one that came first, in a plan that begins with the schedule of this number.
     ///
     /// # Errors
     ///
     /// An allocation that fails.
-    pub fn sort_by_times(&mut self) -> Result<(), AllocError>
-        ensures sorted { OnOk result (AreMostFirst self.new) }
+    pub fn sort_by_times(&mut self, from: u32) -> Result<(), AllocError>
+        ensures sorted { OnOk result (AreMostFirst from self.new) }
         ensures all { IsPermutation self.old self.new }
     {
         self.outcomes
-            .sort_by_key(|_states, outcome| Reverse(outcome.times))
+            .sort_by_key(|_states, outcome| rank_of(outcome, from))
     }
 
     /// How many outcomes there are.
@@ -137,6 +137,13 @@ impl Tally {
     {
         self.outcomes.get_index(index)
     }
+}
+
+/// By what outcomes are in order: how often they came, and the places of their first schedules.
+fn rank_of(outcome: &Outcome, from: u32) -> (Reverse<u32>, u32)
+    ensures { result ≡ (record { 0 = outcome.now.times }, place_of from outcome.now.first) }
+{
+    (Reverse(outcome.times), outcome.first.wrapping_sub(from))
 }
 
 /// The states, whichever simulators hold.

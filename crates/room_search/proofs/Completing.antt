@@ -26,10 +26,10 @@ use Rattle.room_core.proofs.CallerLemmasOnSpecs.{same_spec}
 use Rattle.run_search.specs.declared.ended.Ended.{Ended}
 use Rattle.room_search.specs.declared.reached.Reached.{Reached}
 use Rattle.room_search.specs.Nodes.{CoverAllRooms, IsIn, Node}
-use Rattle.room_search.specs.Reaching.{IsFound, IsReachable}
+use Rattle.room_search.specs.Reaching.{IsFound, IsReachable, outcome_of}
 use Rattle.room_search.specs.Resting.{is_unresolved, waits}
-use Rattle.room_search.specs.Taking.{AreAmong, IsRun, IsTaken, MayRest}
-use Rattle.room_search.proofs.Ending.{ends_same}
+use Rattle.room_search.specs.Ends.{AreEndsFound}
+use Rattle.room_search.specs.Taking.{AreAmong, IsTaken, MayRest}
 
 -- ---- a mind that is settled rests
 
@@ -87,7 +87,7 @@ Settles = (room : RoomState) (fields : Fields) → IsWithinLimits room.spec → 
     → IsSettledInMind room.spec (fields_after_settle room.spec fields) left.simulator j
 
 pub found_all : (spec : RoomSpec) (crashes : ℕ) (table : List Knowledge) (nodes : List Node) (done : List (Vec ℕ)) (outcomes : List Reached) → IsWithinLimits spec → Settles → CoverAllRooms spec table nodes
-    → ((node : Node) → Contains nodes node → IsTaken spec crashes table done node) → ((words : List ℕ) → AreAmong done words → IsRun spec outcomes words)
+    → ((node : Node) → Contains nodes node → IsTaken spec crashes table done node) → ((words : List ℕ) → AreAmong done words → AreEndsFound spec outcomes words)
     → (outcome : List Ended) → IsReachable spec crashes outcome → IsFound outcomes outcome
 found_all spec crashes table nodes done outcomes limits settles covers taken runs outcome is =
     let room = is.room in
@@ -107,7 +107,5 @@ found_all spec crashes table nodes done outcomes limits settles covers taken run
     (settles room is.fields room_limits is.are
     (subst (λ (s : RoomSpec). HasTurnLeft s (fields_after_settle s is.fields)) (sym is.of_room) (record { simulator = i; below = below; alive = alive; turns = is.turns i below alive }))
     j (subst (λ (s : RoomSpec). j < processes s) (sym is.of_room) process))) in
-    let ran = runs node.words (taken node covered.1 fields.crashed is.few rests) in
-    let same = ends_same spec after ran.room fields ran.fields limits after_is ran.of_room (sym here.words ∙ sym ran.words_are) are ran.are in
-    let found = ran.found in
-    (found.0, found.1, is.outcome_is ∙ same ∙ found.2)
+    let found = runs node.words (taken node covered.1 fields.crashed is.few rests) after fields after_is are (sym here.words) in
+    (found.0, found.1, ◌∙◌ {c = outcome_of found.0} is.outcome_is found.2)

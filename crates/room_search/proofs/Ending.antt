@@ -14,7 +14,7 @@ use Rattle.ws_history.proofs.CallerLemmas.{states_in}
 use Rattle.run_search.specs.declared.ended.Ended.{Ended}
 use Rattle.room_outcomes.specs.Ends.{end_of, ends_of}
 
-stopped_same : (one other : Option ℕ) → end_of (held_or_going one) ≡ end_of (held_or_going other)
+pub stopped_same : (one other : Option ℕ) → end_of (held_or_going one) ≡ end_of (held_or_going other)
 stopped_same None None = refl
 stopped_same None (Some i) = refl
 stopped_same (Some i) None = refl

@@ -7,4 +7,6 @@ mod Searching
 mod Ending
 mod Completing
 mod Taken
+mod Finding
+mod Said
 mod Noting

@@ -1,5 +1,5 @@
 -- One room more is run, and one node more is taken.
-use Rattle.std.proofs.Common.{◌≡◌, ℕ, ◌+◌, ◌<◌, get_or, inl, inr, true, List, [], ◌∷◌, ◌++◌, length, filter, Option, None, is_none, refl, sym, ap, ◌∙◌, subst, arith}
+use Rattle.std.proofs.Common.{◌≡◌, ℕ, ◌+◌, ◌<◌, get_or, inl, inr, true, List, [], ◌∷◌, ◌++◌, length, filter, Option, None, is_none, sym, ap, ◌∙◌, subst, arith}
 use Rattle.std.specs.Global.{Vec}
 use Rattle.std.specs.List.{count_by, range_with_len}
 use Rattle.std.proofs.lemmas.Bool.{cases_Bool, cases_eq}
@@ -18,8 +18,9 @@ use Rattle.room_sample.proofs.CallerLemmas.{HasFields, settled_fields}
 use Rattle.room_search.specs.declared.reached.Reached.{Reached}
 use Rattle.room_search.specs.Nodes.{Node}
 use Rattle.room_search.specs.Reaching.{IsFound, IsReachedBy}
-use Rattle.room_search.specs.Taking.{AreAmong, Includes, IsRun, IsTaken, MayRest}
-use Rattle.room_search.proofs.Ending.{few_missing, missing_is}
+use Rattle.room_search.specs.Ends.{AreEndsFound}
+use Rattle.room_search.specs.Taking.{AreAmong, Includes, IsTaken, MayRest}
+use Rattle.room_search.proofs.Ending.{ends_same, few_missing, missing_is}
 
 -- ---- a room that was run
 
@@ -33,28 +34,14 @@ room_outcome spec crashes schedule room states settled read = record {
   reported = subst (λ (r : RoomState). (fields : Fields) → AreFieldsOf r fields → states ≡ (report_of r.spec fields).states.items) settled.room_is read;
 }
 
-pub room_run : (spec : RoomSpec) (crashes : ℕ) (schedule : List Stretch) (room : RoomState) (outcomes : List Reached) (states : List ProcessState) → IsWithinLimits spec → IsSettledAfter spec crashes schedule room → IsRead room states → IsFound outcomes (ends_of states)
-    → IsRun spec outcomes room.words
-room_run spec crashes schedule room outcomes states limits settled read found =
-    let here : HasFields spec room = subst (HasFields spec) (sym settled.room_is) (settled_fields spec schedule limits) in
-    record {
-      room = room;
-      of_room = here.same;
-      fields = here.fields;
-      are = here.are;
-      words_are = refl;
-      found = (found.0, found.1, ap (λ (s : RoomSpec). ends_of (states_of s here.fields)) (sym here.same) ∙ ap ends_of (sym (read here.fields here.are)) ∙ found.2);
-    }
-
-pub run_grown : (spec : RoomSpec) (old new : List Reached) (words : List ℕ) → Includes old new → IsRun spec old words → IsRun spec new words
-run_grown spec old new words grown is = record {
-  room = is.room;
-  of_room = is.of_room;
-  fields = is.fields;
-  are = is.are;
-  words_are = is.words_are;
-  found = (is.found.0, grown is.found.0 is.found.1, is.found.2);
-}
+pub room_found : (spec : RoomSpec) (crashes : ℕ) (schedule : List Stretch) (room : RoomState) (outcomes : List Reached) (states : List ProcessState) → IsWithinLimits spec → IsSettledAfter spec crashes schedule room → IsRead room states → IsFound outcomes (ends_of states)
+    → AreEndsFound spec outcomes room.words
+room_found spec crashes schedule room outcomes states limits settled read found = λ other fields is are same_words.
+    let here : HasFields spec room = subst (HasFields spec) (sym settled.room_is) (settled_fields spec schedule limits) in (
+      found.0,
+      found.1,
+      ends_same spec other room fields here.fields limits is here.same same_words are here.are ∙ ap (λ (s : RoomSpec). ends_of (states_of s here.fields)) (sym here.same) ∙ ap ends_of (sym (read here.fields here.are)) ∙ found.2,
+    )
 
 pub reached_same : (spec : RoomSpec) (crashes : ℕ) (one other : Reached) → other.states ≡ one.states → other.schedule ≡ one.schedule → IsReachedBy spec crashes one → IsReachedBy spec crashes other
 reached_same spec crashes one other states schedule is =

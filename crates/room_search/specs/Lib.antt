@@ -3,4 +3,5 @@ pub mod Nodes
 pub mod Searches
 pub mod Resting
 pub mod Reaching
+pub mod Ends
 pub mod Taking

@@ -5,16 +5,12 @@ use Rattle.std.specs.List.{Contains, filter, range_with_len}
 use Rattle.room_spec.specs.Rooms.{RoomSpec}
 use Rattle.simulator.specs.declared.knowledge.Knowledge.{Knowledge}
 use Rattle.simulator.specs.Knowing.{mind_of}
-use Rattle.room_core.specs.Calls.{RoomState}
-use Rattle.room_core.specs.Fields.{Fields}
-use Rattle.room_core.specs.Reading.{AreFieldsOf}
-use Rattle.ws_history.specs.Reports.{states_of}
 use Rattle.run_search.specs.Outcomes.{Ends}
-use Rattle.room_outcomes.specs.Ends.{ends_of}
 use Rattle.room_search.specs.declared.reached.Reached.{Reached}
 use Rattle.room_search.specs.declared.taking.Taking.{Taking}
+use Rattle.room_search.specs.Ends.{AreEndsFound}
 use Rattle.room_search.specs.Nodes.{MayKnow, Node}
-use Rattle.room_search.specs.Reaching.{IsFound, IsReachedBy, outcome_of}
+use Rattle.room_search.specs.Reaching.{IsReachedBy, outcome_of}
 use Rattle.room_search.specs.Resting.{Rests}
 
 -- simulator i may be where it can go no further
@@ -29,16 +25,7 @@ AreAmong all words = (one : Vec ℕ) × Contains all one × (one.items ≡ words
 abbrev pub Includes : {A : Type 0} → List A → List A → Type 0
 Includes {A} some all = (one : A) → Contains some one → Contains all one
 
--- A room with these words was run, and its outcome is found.
-pub record IsRun (spec : RoomSpec) (outcomes : List Reached) (words : List ℕ) : Type 0 where
-  pub room : RoomState
-  pub of_room : room.spec ≡ spec
-  pub fields : Fields
-  pub are : AreFieldsOf room fields
-  pub words_are : room.words ≡ words
-  pub found : IsFound outcomes (ends_of (states_of spec fields))
-
--- The words of the node are among those of which a room was run, if all but a few simulators may be where they can go no further.
+-- The words of the node are among those whose outcome is found, if all but a few simulators may be where they can go no further.
 abbrev pub IsTaken : RoomSpec → ℕ → List Knowledge → List (Vec ℕ) → Node → Type 0
 IsTaken spec crashes table done node =
     (crashed : ℕ → Bool) → length (filter crashed (range_with_len 0 spec.simulators)) ≤ crashes
@@ -53,4 +40,4 @@ pub record AreKept (ends : List Ends) (outcomes : List Reached) : Type 0 where
 pub record IsTaking (spec : RoomSpec) (crashes : ℕ) (taking : Taking) : Type 0 where
   pub kept : AreKept taking.ends.keys taking.outcomes.items
   pub reached : (reached : Reached) → Contains taking.outcomes.items reached → IsReachedBy spec crashes reached
-  pub done : (one : Vec ℕ) → Contains taking.done.keys one → IsRun spec taking.outcomes.items one.items
+  pub done : (one : Vec ℕ) → Contains taking.done.keys one → AreEndsFound spec taking.outcomes.items one.items

@@ -2,6 +2,7 @@
 #![tactic(auto)]
 
 mod closing;
+mod ends;
 mod explored;
 mod node;
 mod path;

@@ -74,7 +74,7 @@ fn waits(subject: &Subject<'_>, words: &[u64], j: usize, goal: Goal) -> bool
 }
 
 /// Whether the agreement on the snapshot of process `j` in this round isn't resolved.
-fn is_unresolved(subject: &Subject<'_>, words: &[u64], j: usize, round: u8) -> bool
+pub fn is_unresolved(subject: &Subject<'_>, words: &[u64], j: usize, round: u8) -> bool
     requires process { j < processes subject.now.spec.now }
     requires round { (1 ≤ round) × (round ≤ subject.now.spec.now.rounds) }
     requires words { AreWords subject.now.spec.now words.now }

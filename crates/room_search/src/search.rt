@@ -1,5 +1,5 @@
 //! All outcomes that the simulators of a room can reach.
-ghost use Rattle.std.specs.Prelude.{◌≡◌, ◌≤◌, ℕ, IfOk, List, OnOk, Some, length, slice_get};
+ghost use Rattle.std.specs.Prelude.{◌≡◌, ◌≤◌, ◌⊎◌, ℕ, IfOk, List, OnOk, Some, length, slice_get};
 ghost use Rattle.std.specs.List.{Contains};
 ghost use Rattle.room_spec.specs.Rooms.{processes};
 ghost use Rattle.run_search.specs.Outcomes.{IsRunOutcome};
@@ -25,7 +25,8 @@ pub struct Reach {
     pub outcomes: Vec<Reached>,
     /// How many nodes the search has.
     pub nodes: usize,
-    /// For how many nodes no schedule was found within the turns that the room gives to each simulator.
+    /// How many nodes have an outcome that isn't found, or that only a report would say: no schedule to them was found within the turns that the room gives to each
+    /// simulator.
     pub missed: u64,
 }
 
@@ -58,26 +59,60 @@ pub fn search_room<P: Progress>(
     let _shape = spec.shape(); // for the proof: the room is within its limits
     let subject = Subject { alloc, spec };
     let explored = explore(&subject, limit, progress)?;
-    let taking = take_all(&subject, &explored, crashes)?;
+    let taken = take_all(&subject, &explored, crashes)?;
+    let taking = taken.taking;
     let _count = taking.ends.len(); // for the proof: no outcome is in the set twice
     Ok(Reach {
         outcomes: taking.outcomes,
         nodes: explored.nodes.len(),
-        missed: taking.missed,
+        missed: taken.missed,
     })
 }
 
 /// The outcomes of the rooms of all nodes.
-fn take_all(subject: &Subject<'_>, explored: &Explored, crashes: u32) -> Result<Taking, AllocError>
+#[derive(Drop)]
+struct Taken {
+    taking: Taking,
+    /// Of how many nodes the outcome isn't found.
+    missed: u64,
+}
+
+/// Takes the outcomes of the rooms of all nodes.
+fn take_all(subject: &Subject<'_>, explored: &Explored, crashes: u32) -> Result<Taken, AllocError>
     requires { IsSearched subject.now.spec.now explored.now }
-    ensures taking { IfOk result (IsTaking subject.now.spec.now crashes) }
-    ensures all { IfOk result (λ taking. taking.missed ≡ 0 → (index : ℕ) (node : NodeValue) → slice_get explored.now.nodes.items index ≡ Some node →
-        IsTaken subject.now.spec.now crashes explored.now.table.keys taking.done.keys node) }
+    ensures taking { IfOk result (λ taken. IsTaking subject.now.spec.now crashes taken.taking) }
+    ensures all { IfOk result (λ taken. taken.missed ≡ 0 → (index : ℕ) (node : NodeValue) → slice_get explored.now.nodes.items index ≡ Some node →
+        IsTaken subject.now.spec.now crashes explored.now.table.keys taken.taking.done.keys node) }
 {
     let mut taking = Taking::nothing(subject.alloc);
-    let count = explored.nodes.len();
-    for index in 0..count {
-        taking.take(subject, explored, crashes, index)?;
+    let left = take_first(subject, explored, crashes, &mut taking)?;
+    let mut missed: u64 = 0;
+    for place in 0..left.len() {
+        if !taking.take(subject, explored, crashes, left[place])? {
+            missed = missed.saturating_add(1);
+        }
     }
-    Ok(taking)
+    Ok(Taken { taking, missed })
+}
+
+/// Takes the outcomes of the rooms of the nodes one by one, and gives the indices of those to which no schedule is found. Their outcomes may be those of later nodes.
+fn take_first(
+    subject: &Subject<'_>,
+    explored: &Explored,
+    crashes: u32,
+    taking: &mut Taking,
+) -> Result<Vec<usize>, AllocError>
+    requires searched { IsSearched subject.now.spec.now explored.now }
+    requires taking { IsTaking subject.now.spec.now crashes taking.old }
+    ensures taking { OnOk result (IsTaking subject.now.spec.now crashes taking.new) }
+    ensures all { IfOk result (λ left. (index : ℕ) (node : NodeValue) → slice_get explored.now.nodes.items index ≡ Some node →
+        IsTaken subject.now.spec.now crashes explored.now.table.keys taking.new.done.keys node ⊎ Contains left.items index) }
+{
+    let mut left = Vec::new(subject.alloc);
+    for index in 0..explored.nodes.len() {
+        if !taking.take(subject, explored, crashes, index)? {
+            left.push(index)?;
+        }
+    }
+    Ok(left)
 }

@@ -1,16 +1,20 @@
 //! Outcomes, taken from one node after the other.
-ghost use Rattle.std.specs.Prelude.{◌≡◌, ◌<◌, ◌≤◌, ◌⊎◌, ℕ, None, OnOk, Some, true, is_none, length, slice_get, slice_index_or};
+ghost use Rattle.std.specs.Prelude.{◌≡◌, ◌<◌, ◌⊎◌, ℕ, IfOk, List, None, OnOk, Some, true, is_none, length, slice_get, slice_index_or};
 ghost use Rattle.std.specs.Global.{Vec as VecValue};
 ghost use Rattle.std.specs.List.{Contains, count_by};
 ghost use Rattle.room_spec.specs.Rooms.{RoomSpec};
 ghost use Rattle.room_outcomes.specs.Ends.{end_of, ends_of};
 ghost use Rattle.room_sample.specs.Schedules.{IsSettledAfter};
 ghost use Rattle.room_search.specs.Nodes.{IsNode, Node as NodeValue};
+ghost use Rattle.room_search.specs.Ends.{SayEnds};
 ghost use Rattle.room_search.specs.Reaching.{IsFound};
 ghost use Rattle.room_search.specs.Searches.{IsSearched};
+ghost use Rattle.room_search.specs.Steps.{AreWords};
 ghost use Rattle.room_search.specs.Taking.{AreAmong, AreKept, Includes, IsTaken, IsTaking, MayRest};
 ghost use Rattle.room_search.specs.declared.reached.Reached.{Reached as ReachedValue};
+ghost use Rattle.run_search.specs.declared.ended.Ended.{Ended as EndedValue};
 
+use crate::ends::ends_by_words;
 use crate::explored::Explored;
 use crate::node::Node;
 use crate::path::{Numbers, schedule_to};
@@ -32,12 +36,10 @@ type Resting = ArrayVec<Option<u32>, MAX_SIMULATORS>;
 /// The outcomes that were found so far, each once.
 #[derive(Drop)]
 pub struct Taking {
-    /// The words of which a room was run.
+    /// The words whose outcome is found.
     pub done: IndexSet<Vec<u64>>,
     pub ends: IndexSet<Ends>,
     pub outcomes: Vec<Reached>,
-    /// How many nodes there are to which no schedule was found within the turns of the room.
-    pub missed: u64,
 }
 
 impl Taking {
@@ -49,11 +51,11 @@ impl Taking {
             done: IndexSet::new(alloc),
             ends: IndexSet::new(alloc),
             outcomes: Vec::new(alloc),
-            missed: 0,
         }
     }
 
-    /// Takes the outcome of the rooms of the node of this index, if all but `crashes` simulators may be where they can go no further.
+    /// Takes the outcome of the rooms of the node of this index, if all but `crashes` simulators may be where they can go no further. Gives whether it is found: no
+    /// schedule may be found to an outcome that isn't yet.
     ///
     /// # Errors
     ///
@@ -64,24 +66,26 @@ impl Taking {
         explored: &Explored,
         crashes: u32,
         index: usize,
-    ) -> Result<(), AllocError>
+    ) -> Result<bool, AllocError>
         requires searched { IsSearched subject.now.spec.now explored.now }
         requires taking { IsTaking subject.now.spec.now crashes self.old }
         ensures taking { OnOk result (IsTaking subject.now.spec.now crashes self.new) }
-        ensures missed { OnOk result (self.old.missed ≤ self.new.missed) }
         ensures grown { OnOk result (Includes self.old.done.keys self.new.done.keys) }
-        ensures taken { OnOk result ((node : NodeValue) → slice_get explored.now.nodes.items index ≡ Some node → self.new.missed ≡ 0 →
+        ensures taken { IfOk result (λ is_found. is_found ≡ true → (node : NodeValue) → slice_get explored.now.nodes.items index ≡ Some node →
             IsTaken subject.now.spec.now crashes explored.now.table.keys self.new.done.keys node) }
     {
         let Some(node) = explored.nodes.get(index) else {
-            return Ok(());
+            return Ok(true);
         };
         let resting = resting_in(subject, explored, node);
         if stopped_in(&resting) > crashes as usize {
-            return Ok(());
+            return Ok(true);
         }
         if self.has_done(node.words()) {
-            return Ok(());
+            return Ok(true);
+        }
+        if self.note_said(subject, node.words())? {
+            return Ok(true);
         }
         let schedule = schedule_of(subject, explored, index, &resting)?;
         let settled = settled_after(
@@ -91,14 +95,41 @@ impl Taking {
             schedule.as_slice(),
         )?;
         if settled.room.words() != node.words().as_slice() {
-            self.missed = self.missed.saturating_add(1);
-            return Ok(());
+            return Ok(false);
         }
         self.note(subject, crashes, settled)?;
-        Ok(())
+        Ok(true)
     }
 
-    /// Whether a room with these words was run.
+    /// Marks words if they say how the processes end, and that is an outcome that is found. Gives whether it is.
+    fn note_said(&mut self, subject: &Subject<'_>, words: &Vec<u64>) -> Result<bool, AllocError>
+        requires words { AreWords subject.now.spec.now words.now.items }
+        requires kept { AreKept self.old.ends.keys self.old.outcomes.items }
+        ensures taking { OnOk result ((crashes : ℕ) → IsTaking subject.now.spec.now crashes self.old → IsTaking subject.now.spec.now crashes self.new) }
+        ensures grown { OnOk result (Includes self.old.done.keys self.new.done.keys) }
+        ensures there { IfOk result (λ is_found. is_found ≡ true → AreAmong self.new.done.keys words.now.items) }
+    {
+        let _shape = subject.spec.shape(); // for the proof: the room is within its limits
+        if !self.has_found(subject, words) {
+            return Ok(false);
+        }
+        self.mark(copied(subject.alloc, words)?)?;
+        Ok(true)
+    }
+
+    /// Whether the words say how the processes end, and that is an outcome that is found.
+    fn has_found(&self, subject: &Subject<'_>, words: &[u64]) -> bool
+        requires words { AreWords subject.now.spec.now words.now }
+        requires kept { AreKept self.now.ends.keys self.now.outcomes.items }
+        ensures { result ≡ true → (ends : List EndedValue) × SayEnds subject.now.spec.now words.now ends × IsFound self.now.outcomes.items ends }
+    {
+        match ends_by_words(subject, words) {
+            Some(ends) => self.ends.contains(&ends),
+            None => false,
+        }
+    }
+
+    /// Whether the outcome of rooms with these words is found.
     fn has_done(&self, words: &Vec<u64>) -> bool
         ensures { result ≡ true → AreAmong self.now.done.keys words.now.items }
     {
@@ -115,7 +146,6 @@ impl Taking {
         requires settled { IsSettledAfter subject.now.spec.now crashes settled.schedule.items settled.room }
         requires taking { IsTaking subject.now.spec.now crashes self.old }
         ensures taking { OnOk result (IsTaking subject.now.spec.now crashes self.new) }
-        ensures missed { OnOk result (self.new.missed ≡ self.old.missed) }
         ensures grown { OnOk result (Includes self.old.done.keys self.new.done.keys) }
         ensures there { OnOk result (AreAmong self.new.done.keys settled.room.words) }
     {
@@ -127,14 +157,13 @@ impl Taking {
         Ok(())
     }
 
-    /// Marks that a room with these words was run.
+    /// Marks that the outcome of rooms with these words is found.
     fn mark(&mut self, words: Vec<u64>) -> Result<(), AllocError>
         ensures there { OnOk result (AreAmong self.new.done.keys words.items) }
         ensures grown { OnOk result (Includes self.old.done.keys self.new.done.keys) }
         ensures new { OnOk result ((other : VecValue ℕ) → Contains self.new.done.keys other → Contains self.old.done.keys other ⊎ (words.items ≡ other.items)) }
         ensures ends { OnOk result (self.new.ends.keys ≡ self.old.ends.keys) }
         ensures outcomes { OnOk result (self.new.outcomes.items ≡ self.old.outcomes.items) }
-        ensures missed { OnOk result (self.new.missed ≡ self.old.missed) }
     {
         self.done.insert(words)?;
         Ok(())
@@ -149,7 +178,6 @@ impl Taking {
         ensures new { OnOk result ((other : ReachedValue) → Contains self.new.outcomes.items other →
             Contains self.old.outcomes.items other ⊎ ((other.states ≡ states) × (other.schedule ≡ schedule))) }
         ensures done { OnOk result (self.new.done.keys ≡ self.old.done.keys) }
-        ensures missed { OnOk result (self.new.missed ≡ self.old.missed) }
     {
         let (_, added) = self.ends.insert_full(ends_of(&states))?;
         if !added {

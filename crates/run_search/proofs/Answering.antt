@@ -1,9 +1,8 @@
--- Which states have the same answer to a question.
-use Rattle.std.proofs.Common.{◌≡◌, ℕ, ◌≤◌, cond, List, [], ◌∷◌, ◌++◌, Option, Some, None, refl, sym, ap, ◌∙◌, subst, arith, inl, inr, ◌⊎◌}
-use Rattle.std.specs.List.{Contains, cons_option, count_by}
-use Rattle.std.proofs.lemmas.List.{append-nil, map_push}
+-- Which states are the same to a task.
+use Rattle.std.proofs.Common.{◌≡◌, ℕ, List, [], ◌∷◌, ◌++◌, Option, Some, None, refl, sym, ap, ◌∙◌, subst, inl, inr, ◌⊎◌}
+use Rattle.std.specs.List.{Contains, cons_option}
+use Rattle.std.proofs.lemmas.List.{append-nil}
 use Rattle.std.proofs.lemmas.List.Elements.{Contains-append_left, Contains-push, Contains-push_cases, filter_map-append}
-use Rattle.std.proofs.lemmas.List.Sums.{sum_by_push}
 use Rattle.std.proofs.lemmas.Option.{none-some, same_Some}
 use Rattle.room_spec.specs.Rooms.{RoomSpec}
 use Rattle.transcript.proofs.CallerLemmas.{contains_in, in_contains}
@@ -12,10 +11,8 @@ use Rattle.run_search.specs.declared.ended.Ended.TheVariants as ends
 use Rattle.run_search.specs.declared.local_state.Due.{Due}
 use Rattle.run_search.specs.declared.local_state.Due.TheVariants.{Write, Snap, Decide, Decided, Spent}
 use Rattle.run_search.specs.declared.local_state.LocalState.{LocalState}
-use Rattle.run_search.specs.declared.pick.Question.{Question}
-use Rattle.run_search.specs.declared.pick.Question.TheVariants.{Ends, Task}
-use Rattle.run_search.specs.Outcomes.{ended, ends_in, is_stopped}
-use Rattle.run_search.specs.Picks.{Breaks, IsSame, fits}
+use Rattle.run_search.specs.Outcomes.{ended}
+use Rattle.run_search.specs.Picks.{Breaks, IsSame}
 use Rattle.run_search.specs.Tasks.{AreFewInputs, decided_value, decided_values}
 use Rattle.run_search.proofs.Deciding.{same_values}
 
@@ -37,7 +34,7 @@ value_is Spent = refl
 same_value : (one other : LocalState) → ended one.due ≡ ended other.due → decided_value one.due ≡ decided_value other.due
 same_value one other same = value_is one.due ∙ ap value_of same ∙ sym (value_is other.due)
 
-values_push : (state : List LocalState) (local : LocalState) → decided_values (state ++ local ∷ []) ≡ decided_values state ++ cons_option (decided_value local.due) []
+pub values_push : (state : List LocalState) (local : LocalState) → decided_values (state ++ local ∷ []) ≡ decided_values state ++ cons_option (decided_value local.due) []
 values_push state local = filter_map-append (λ (one : LocalState). decided_value one.due) state (local ∷ [])
 
 push_cases : (values : List ℕ) (last : Option ℕ) (v : ℕ) → Contains (values ++ cons_option last []) v → Contains values v ⊎ (last ≡ Some v)
@@ -74,61 +71,31 @@ breaks_push : (spec : RoomSpec) (most : ℕ) (state : List LocalState) (local : 
 breaks_push spec most state local breaks = breaks_within spec most state (state ++ local ∷ []) (decided_kept state local) breaks
 
 -- what has the same answer as a state that breaks the task breaks it, and as one that keeps it keeps it
-pub same_breaks : (spec : RoomSpec) (most : ℕ) (one other : List LocalState) → IsSame spec (Task most) one other → Breaks spec most other → Breaks spec most one
+pub same_breaks : (spec : RoomSpec) (most : ℕ) (one other : List LocalState) → IsSame spec most one other → Breaks spec most other → Breaks spec most one
 same_breaks spec most one other (inl both) breaks = both.0
 same_breaks spec most one other (inr same) breaks = breaks_within spec most other one (λ v there. (same v).1 there) breaks
 
-pub same_keeps : (spec : RoomSpec) (most : ℕ) (one other : List LocalState) → IsSame spec (Task most) one other → AreFewInputs spec most (decided_values one) → AreFewInputs spec most (decided_values other)
+pub same_keeps : (spec : RoomSpec) (most : ℕ) (one other : List LocalState) → IsSame spec most one other → AreFewInputs spec most (decided_values one) → AreFewInputs spec most (decided_values other)
 same_keeps spec most one other (inl both) are = absurd (both.0 are)
 same_keeps spec most one other (inr same) are = same_values spec most (decided_values one) (decided_values other) (λ v at. contains_in v (decided_values one) ((same v).1 (in_contains v (decided_values other) at))) are
 
--- ---- the same answer
+-- ---- the same to a task
 
-pub same_own : (spec : RoomSpec) (question : Question) (state : List LocalState) → IsSame spec question state state
-same_own spec (Ends crashes) state = refl
-same_own spec (Task most) state = inr (λ v. (λ there. there, λ there. there))
+pub same_own : (spec : RoomSpec) (most : ℕ) (state : List LocalState) → IsSame spec most state state
+same_own spec most state = inr (λ v. (λ there. there, λ there. there))
 
-pub same_sym : (spec : RoomSpec) (most : ℕ) (one other : List LocalState) → IsSame spec (Task most) one other → IsSame spec (Task most) other one
+pub same_sym : (spec : RoomSpec) (most : ℕ) (one other : List LocalState) → IsSame spec most one other → IsSame spec most other one
 same_sym spec most one other (inl both) = inl (both.1, both.0)
 same_sym spec most one other (inr same) = inr (λ v. ((same v).1, (same v).0))
 
-pub same_on : (spec : RoomSpec) (question : Question) (one other last : List LocalState) → IsSame spec question one other → IsSame spec question other last → IsSame spec question one last
-same_on spec (Ends crashes) one other last first second = first ∙ second
-same_on spec (Task most) one other last (inl both) (inl next) = inl (both.0, next.1)
-same_on spec (Task most) one other last (inl both) (inr same) = inl (both.0, breaks_within spec most other last (λ v there. (same v).0 there) both.1)
-same_on spec (Task most) one other last (inr same) (inl next) = inl (breaks_within spec most other one (λ v there. (same v).1 there) next.0, next.1)
-same_on spec (Task most) one other last (inr same) (inr next) = inr (λ v. (λ there. (next v).0 ((same v).0 there), λ there. (same v).1 ((next v).1 there)))
+pub same_on : (spec : RoomSpec) (most : ℕ) (one other last : List LocalState) → IsSame spec most one other → IsSame spec most other last → IsSame spec most one last
+same_on spec most one other last (inl both) (inl next) = inl (both.0, next.1)
+same_on spec most one other last (inl both) (inr same) = inl (both.0, breaks_within spec most other last (λ v there. (same v).0 there) both.1)
+same_on spec most one other last (inr same) (inl next) = inl (breaks_within spec most other one (λ v there. (same v).1 there) next.0, next.1)
+same_on spec most one other last (inr same) (inr next) = inr (λ v. (λ there. (next v).0 ((same v).0 there), λ there. (same v).1 ((next v).1 there)))
 
--- ---- with one process more
-
-abbrev end_of : LocalState → Ended
-end_of local = ended local.due
-
-ends_push : (state : List LocalState) (local : LocalState) → ends_in (state ++ local ∷ []) ≡ ends_in state ++ ended local.due ∷ []
-ends_push state local = map_push end_of state local
-
-ends_more : (one other : List LocalState) (option last : LocalState) → ends_in one ≡ ends_in other → ended option.due ≡ ended last.due → ends_in (one ++ option ∷ []) ≡ ends_in (other ++ last ∷ [])
-ends_more one other option last same end =
-    ends_push one option ∙ ap (λ (l : List Ended). l ++ ended option.due ∷ []) same ∙ ap (λ (e : Ended). ends_in other ++ e ∷ []) end ∙ sym (ends_push other last)
-
-count_before : (all : List Ended) (last : Ended) → count_by is_stopped all ≤ count_by is_stopped (all ++ last ∷ [])
-count_before all last =
-    let sum = sum_by_push (λ (e : Ended). cond (is_stopped e) 1 0) all last in
-    omega (arith, sum)
-
-pub few_before : (question : Question) (state : List LocalState) (local : LocalState) → fits question (state ++ local ∷ []) → fits question state
-few_before (Ends crashes) state local fit =
-    let less = count_before (ends_in state) (ended local.due) in
-    let same = ap (count_by is_stopped) (ends_push state local) in
-    omega (arith, less, same, fit)
-few_before (Task most) state local fit = tt
-
-pub same_more : (spec : RoomSpec) (question : Question) (one other : List LocalState) (option last : LocalState) → IsSame spec question one other → ended option.due ≡ ended last.due → fits question (other ++ last ∷ [])
-    → IsSame spec question (one ++ option ∷ []) (other ++ last ∷ []) × fits question (one ++ option ∷ [])
-same_more spec (Ends crashes) one other option last same end fit =
-    let more = ends_more one other option last same end in
-    let count = ap (count_by is_stopped) more in
-    (more, omega (arith, count, fit))
-same_more spec (Task most) one other option last (inl both) end fit = (inl (breaks_push spec most one option both.0, breaks_push spec most other last both.1), tt)
-same_more spec (Task most) one other option last (inr same) end fit =
-    (inr (λ v. (decided_push one other option last (λ w there. (same w).0 there) end v, decided_push other one last option (λ w there. (same w).1 there) (sym end) v)), tt)
+-- with one process more
+pub same_more : (spec : RoomSpec) (most : ℕ) (one other : List LocalState) (option last : LocalState) → IsSame spec most one other → ended option.due ≡ ended last.due → IsSame spec most (one ++ option ∷ []) (other ++ last ∷ [])
+same_more spec most one other option last (inl both) end = inl (breaks_push spec most one option both.0, breaks_push spec most other last both.1)
+same_more spec most one other option last (inr same) end =
+    inr (λ v. (decided_push one other option last (λ w there. (same w).0 there) end v, decided_push other one last option (λ w there. (same w).1 there) (sym end) v))

@@ -11,7 +11,6 @@ use Rattle.transcript.specs.declared.event.Event.{Event}
 use Rattle.transcript.specs.Runs.{IsRun}
 use Rattle.transcript.specs.Tasks.{KeepsOwnTask}
 use Rattle.run_search.specs.declared.local_state.LocalState.{LocalState}
-use Rattle.run_search.specs.declared.pick.Question.TheVariants.{Task}
 use Rattle.run_search.specs.declared.task.Breaking.{Breaking}
 use Rattle.run_search.specs.Breaking.{IsLeastBreaking, IsLeastBreakingIn, IsLeastPick}
 use Rattle.run_search.specs.Nodes.{CoverAllReachable, Covers, IsRunTo, Node, set_of}
@@ -102,16 +101,16 @@ next_fewer spec most picks index k first pick here first_is breaks fewer before 
 
 -- ---- in one node
 
-pub none_in : (spec : RoomSpec) (most : ℕ) (node : Node) (picks : List State) → ArePicks spec (Task most) node (processes spec) picks → IsLeastPick spec most picks (length picks) None → IsLeastBreakingIn spec most node None
+pub none_in : (spec : RoomSpec) (most : ℕ) (node : Node) (picks : List State) → ArePicks spec most node (processes spec) picks → IsLeastPick spec most picks (length picks) None → IsLeastBreakingIn spec most node None
 none_in spec most node picks are found = record {
   none = λ is state covers.
-      let stand = are.all state covers tt in
+      let stand = are.all state covers in
       same_keeps spec most stand.0.items state stand.2 (found.none refl stand.1.0 stand.0 stand.1.1 (pick_at picks stand.0 stand.1));
   some = λ breaking is. absurd (none-some breaking is);
   least = λ breaking is. absurd (none-some breaking is);
 }
 
-pub least_in : (spec : RoomSpec) (most : ℕ) (node : Node) (picks : List State) (index : ℕ) (copy one : State) → ArePicks spec (Task most) node (processes spec) picks → IsLeastPick spec most picks (length picks) (Some index) → slice_get picks index ≡ Some one → copy.items ≡ one.items
+pub least_in : (spec : RoomSpec) (most : ℕ) (node : Node) (picks : List State) (index : ℕ) (copy one : State) → ArePicks spec most node (processes spec) picks → IsLeastPick spec most picks (length picks) (Some index) → slice_get picks index ≡ Some one → copy.items ≡ one.items
     → IsLeastBreakingIn spec most node (Some copy)
 least_in spec most node picks index copy one are found there copy_is =
     let broken = found.some index refl in
@@ -119,9 +118,9 @@ least_in spec most node picks index copy one are found there copy_is =
     let of : (breaking : State) → Some copy ≡ Some breaking → pick.items ≡ breaking.items = λ breaking is. ap (λ (s : State). s.items) (same_Some pick one (sym broken.1 ∙ there)) ∙ sym copy_is ∙ ap (λ (s : State). s.items) (same_Some copy breaking is) in
     record {
       none = λ is. absurd (none-some copy (sym is));
-      some = λ breaking is. (subst (Covers spec node) (of breaking is) (are.each pick (pick_there picks index pick broken.1)).0, subst (Breaks spec most) (of breaking is) broken.2);
+      some = λ breaking is. (subst (Covers spec node) (of breaking is) (are.each pick (pick_there picks index pick broken.1)), subst (Breaks spec most) (of breaking is) broken.2);
       least = λ breaking is state covers breaks.
-          let stand = are.all state covers tt in
+          let stand = are.all state covers in
           let less = found.least index pick refl broken.1 stand.1.0 stand.0 stand.1.1 (pick_at picks stand.0 stand.1) (same_breaks spec most stand.0.items state stand.2 breaks) in
           let here = ap events_in (of breaking is) in
           let few = stand.3 in

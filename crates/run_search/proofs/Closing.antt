@@ -107,6 +107,13 @@ closed_last spec row p set now none closed one next there moves = elim (closed o
   | inr same ↦ absurd (none next (subst (λ (l : LocalState). MovesAlone spec row p l next) (sym same) moves))
 ]
 
+-- the next is in the set
+pub closed_known : (spec : RoomSpec) (row : List (Option ℕ)) (p : ℕ) (set : List LocalState) (now to : LocalState) → Contains set to → MovesAlone spec row p now to → IsClosedBut spec row p set now → IsSetClosed spec row p set
+closed_known spec row p set now to there_to moved closed one next there moves = elim (closed one next there moves) [
+  | inl in_set ↦ in_set
+  | inr same ↦ subst (Contains set) (same_Some to next (sym moved.moves ∙ ap (λ (l : LocalState). moved_by spec row p l l.due) same ∙ moves.moves)) there_to
+]
+
 pub come_first : (spec : RoomSpec) (row : List (Option ℕ)) (p : ℕ) (old new : List LocalState) (local : LocalState) → IsAdded old local new → ComeFrom spec row p old local new
 come_first spec row p old new local added to there = elim (added_cases old new local to added there) [ inl before ↦ inl before | inr same ↦ inr (0, same) ]
 

@@ -10,7 +10,8 @@ use Rattle.room_spec.specs.Rooms.{RoomSpec, processes}
 use Rattle.transcript.proofs.CallerLemmas.{slice_get-append, slice_get-push}
 use Rattle.run_search.specs.declared.local_state.LocalState.{LocalState}
 use Rattle.run_search.specs.declared.local_state.Origin.{Origin}
-use Rattle.run_search.specs.Nodes.{AreComplete, AreGathered, AreWithinRounds, Changes, CoverAllReachable, Covers, GoesAlone, HasEdge, HasEdges, HasEdgesBelow, HasParent, IsBehind, IsBelow, IsBelowLater, IsBelowOneWithEdges, IsEdge, IsFirst, IsFirstNode, IsGrown, IsNext, IsNodeAfter, IsSetClosed, IsWhole, IsWithinRounds, LeadsTo, Node, NodesGrow, set_of}
+use Rattle.run_search.specs.Nodes.{AreComplete, AreGathered, AreWithinRounds, Changes, CoverAllReachable, Covers, GoesAlone, HasEdge, HasEdges, HasEdgesBelow, HasParent, IsBehind, IsBelow, IsBelowLater, IsBelowOneWithEdges, IsEdge, IsFirst, IsFirstNode, IsGrown, IsNext, IsNodeAfter, IsSetClosed, IsWhole, IsWithinRounds, Node, NodesGrow, set_of}
+use Rattle.run_search.specs.Limits.{HasAfter}
 use Rattle.run_search.specs.States.{blank, local_of, state_of}
 use Rattle.run_search.specs.Steps.{moved_by}
 use Rattle.run_search.proofs.Closing.{first_within, moved_within, read_there, single_within}
@@ -183,9 +184,6 @@ edge_here spec nodes node to above p local next there below changes leads other 
     let same : next ≡ other = same_Some next other (sym changes.moves ∙ other_changes.moves) in
     (above, there, subst (λ (l : LocalState). IsBehind spec node p l above) same (behind_above spec node to above p next below.row below.sets (next_behind spec node to p next leads)))
 
-pub edge_none : (spec : RoomSpec) (nodes : List Node) (index : ℕ) (node : Node) (p : ℕ) (local : LocalState) → LeadsTo spec index node p local None → HasEdge spec nodes node p local
-edge_none spec nodes index node p local none next changes = absurd (none next changes)
-
 pub below_itself : (node : Node) → IsBelow node node
 below_itself node = record { row = refl; sets = λ p local there. there }
 
@@ -228,13 +226,8 @@ moved_read spec row node p index list local result row_is list_is is moved =
     ∙ ap (λ (r : List (Option ℕ)). moved_by spec r p (get_or list index blank) (get_or list index blank).due) row_is
     ∙ ap (λ (l : LocalState). moved_by spec node.row p l l.due) (local_read node p index list local list_is is)
 
-pub leads_none : (spec : RoomSpec) (index : ℕ) (node : Node) (p : ℕ) (local : LocalState) → None ≡ moved_by spec node.row p local local.due → LeadsTo spec index node p local None
-leads_none spec index node p local none next changes = none-some next (none ∙ changes.moves)
-
-pub leads_alone : (spec : RoomSpec) (index : ℕ) (node : Node) (p : ℕ) (local new : LocalState) → Some new ≡ moved_by spec node.row p local local.due → new.last ≡ local.last → LeadsTo spec index node p local None
-leads_alone spec index node p local new is alone next changes =
-    let same = same_Some new next (is ∙ changes.moves) in
-    changes.other (ap (λ (l : LocalState). l.last) (sym same) ∙ alone)
+pub none_written : (spec : RoomSpec) (node : Node) (p : ℕ) (local : LocalState) → None ≡ moved_by spec node.row p local local.due → (next : LocalState) → Changes spec node.row p local next → ⊥
+none_written spec node p local none next changes = none-some next (none ∙ changes.moves)
 
 pub within_read : (spec : RoomSpec) (node : Node) (p index : ℕ) (list : List LocalState) → IsWhole spec node → p < processes spec → list ≡ set_of node p → index < length list → IsWithinRounds spec (get_or list index blank)
 within_read spec node p index list whole within list_is below =
@@ -267,21 +260,18 @@ edges_more spec old new cursor grown inside before last i node below is =
 
 -- ---- from one node of a list
 
-pub leads_of : (spec : RoomSpec) (nodes : List Node) (cursor p index : ℕ) (read node : Node) (local : LocalState) (to : Option Node) → read ≡ get_or nodes cursor read → slice_get nodes cursor ≡ Some node → slice_get (set_of node p) index ≡ Some local
-    → ((one : LocalState) → slice_get (set_of read p) index ≡ Some one → LeadsTo spec cursor read p one to) → LeadsTo spec cursor node p local to
-leads_of spec nodes cursor p index read node local to read_is is local_is leads =
-    let here : read ≡ node = read_is ∙ get_or_from_slice_get nodes cursor node read is in
-    subst (λ (n : Node). LeadsTo spec cursor n p local to) here (leads local (ap (λ (n : Node). slice_get (set_of n p) index) here ∙ local_is))
-
-pub follow_gathered : (spec : RoomSpec) (nodes : List Node) (cursor p index : ℕ) (node to : Node) → AreGathered spec nodes → slice_get nodes cursor ≡ Some node → p < processes spec → index < length (set_of node p)
-    → ((local : LocalState) → slice_get (set_of node p) index ≡ Some local → LeadsTo spec cursor node p local (Some to)) → AreGathered spec (nodes ++ to ∷ [])
-follow_gathered spec nodes cursor p index node to gathered is within below leads =
-    let local = get_or (set_of node p) index blank in
-    let lead = leads local (slice_get-get_or (set_of node p) index blank below) in
-    gathered_more spec nodes cursor p node to local lead.0 gathered is within (read_there (set_of node p) index below) lead.1 lead.2 lead.3
-
-pub follow_edge : (spec : RoomSpec) (nodes : List Node) (index : ℕ) (node to above : Node) (p : ℕ) (local : LocalState) → Contains nodes above → IsBelow to above → LeadsTo spec index node p local (Some to) → HasEdge spec nodes node p local
-follow_edge spec nodes index node to above p local there below lead = edge_here spec nodes node to above p local lead.0 there below lead.1 lead.2
+-- a node that has what this one has after the write
+pub edge_behind : (spec : RoomSpec) (nodes : List Node) (node above : Node) (p : ℕ) (local new : LocalState) (row : List (Option ℕ)) → p < processes spec → Changes spec node.row p local new → row ≡ set node.row p new.last → Contains nodes above → HasAfter spec node p new row above → HasEdge spec nodes node p local
+edge_behind spec nodes node above p local new row within changes row_is there has next other =
+    let same : new ≡ next = same_Some new next (sym changes.moves ∙ other.moves) in (
+      above,
+      there,
+      subst (λ (l : LocalState). IsBehind spec node p l above) same (record {
+        row = has.row_is ∙ row_is;
+        own = has.all p new within (inl (refl, refl));
+        others = λ q one below apart in_node. has.all q one below (inr (apart, in_node));
+      }),
+    )
 
 pub pushed_there : (nodes : List Node) (to : Node) → Contains (nodes ++ to ∷ []) to
 pushed_there nodes to = Contains-push nodes to

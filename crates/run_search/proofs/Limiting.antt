@@ -11,12 +11,13 @@ use Rattle.arrayvec.specs.ArrayVec.{ArrayVec}
 use Rattle.std.specs.Option.{option_eq}
 use Rattle.std.proofs.lemmas.Bool.{cases_Bool, cases_eq, cases_lt}
 use Rattle.std.proofs.lemmas.List.{get_or_append_left, get_or_push, get_or-set_same, get_or-set_other, length-set, length_push}
+use Rattle.std.proofs.lemmas.List.Elements.{Contains-push, Contains-push_cases}
 use Rattle.std.proofs.lemmas.Option.{get_or_from_slice_get, same_Some, slice_get-get_or, slice_get_within}
 use Rattle.room_spec.specs.Rooms.{RoomSpec, processes}
 use Rattle.transcript.proofs.CallerLemmas.{slice_get-append, slice_get-push}
 use Rattle.run_search.specs.declared.local_state.LocalState.{LocalState}
-use Rattle.run_search.specs.Limits.{AreApart, AreListed, AreTooMany, CoversMore, IsListed, IsNotBelow, Rows, indices_at}
-use Rattle.run_search.specs.Nodes.{AreGathered, Covers, IsWhole, Node, set_of}
+use Rattle.run_search.specs.Limits.{AreApart, AreListed, AreTooMany, CoversMore, IsAfter, IsListed, IsNotBelow, LacksAfter, Rows, indices_at}
+use Rattle.run_search.specs.Nodes.{AreGathered, Covers, IsNext, IsWhole, Node, set_of}
 use Rattle.run_search.specs.States.{blank}
 use Rattle.run_search.proofs.Covering.{node_at, row_covered}
 use Rattle.run_search.proofs.Realising.{realised}
@@ -125,11 +126,11 @@ cases_row a b = elim (cases_Bool (same_view a b)) [
   | inr other ↦ inr (λ same. true≢false (sym (own_row a) ∙ ap (same_view a) same ∙ other))
 ]
 
--- a node whose index is not among those of this row has another row
-pub not_listed : (rows : Rows) (nodes : List Node) (node : Node) → AreListed rows nodes → (i : ℕ) (other : Node) → slice_get nodes i ≡ Some other → (IsListed rows node.row i → IsNotBelow node other) → IsNotBelow node other
-not_listed rows nodes node listed i other is each = elim (cases_row other.row node.row) [
+-- what is so of nodes of another row, and of each whose index is among those of this row, is so of each node
+pub not_listed : (P : Node → Type 0) (rows : Rows) (nodes : List Node) (row : List (Option ℕ)) → AreListed rows nodes → (i : ℕ) (other : Node) → slice_get nodes i ≡ Some other → ((other.row ≡ row → ⊥) → P other) → (IsListed rows row i → P other) → P other
+not_listed P rows nodes row listed i other is differs each = elim (cases_row other.row row) [
   | inl same ↦ each (subst (λ (r : List (Option ℕ)). IsListed rows r i) same (listed i other is))
-  | inr differ ↦ inl differ
+  | inr differ ↦ differs differ
 ]
 
 pub none_listed : (rows : Rows) (nodes : List Node) → nodes ≡ [] → AreListed rows nodes
@@ -199,8 +200,36 @@ entry_there rows row i indices found there =
     entry_at rows i indices row there ∙ ap (λ (key : View). Some (key, indices)) (sym (same_views row (get_or (keys_of rows) i row) passes))
 
 -- what is so of each of some indices
-pub from_listed : (nodes : List Node) (node : Node) (items : List ℕ) (from later : ℕ) (other : Node) → ((k : ℕ) → k < length items → (one : Node) → from ≤ get_or items k 0 → slice_get nodes (get_or items k 0) ≡ Some one → IsNotBelow node one)
-    → Contains items later → from ≤ later → slice_get nodes later ≡ Some other → IsNotBelow node other
-from_listed nodes node items from later other each there past is =
+pub from_listed : (P : Node → Type 0) (nodes : List Node) (items : List ℕ) (from later : ℕ) (other : Node) → ((k : ℕ) → k < length items → (one : Node) → from ≤ get_or items k 0 → slice_get nodes (get_or items k 0) ≡ Some one → P one)
+    → Contains items later → from ≤ later → slice_get nodes later ≡ Some other → P other
+from_listed P nodes items from later other each there past is =
     let at : get_or items there.0 0 ≡ later = get_or_from_slice_get items there.0 later 0 (slice_get-get_or items there.0 later there.1 ∙ ap Some there.2) in
     each there.0 there.1 other (subst (λ (k : ℕ). from ≤ k) (sym at) past) (ap (slice_get nodes) at ∙ is)
+
+-- ---- after a write
+
+pub after_in : (node : Node) (p : ℕ) (new : LocalState) (q : ℕ) (local : LocalState) (old : List LocalState) → (q ≡ p → old ≡ new ∷ []) → ((q ≡ p → ⊥) → old ≡ set_of node q) → IsAfter node p new q local → Contains old local
+after_in node p new q local old own other (inl mine) = subst (λ (l : List LocalState). Contains l local) (sym (own mine.0)) (subst (Contains (new ∷ [])) (sym mine.1) (Contains-push [] new))
+after_in node p new q local old own other (inr else_one) = subst (λ (l : List LocalState). Contains l local) (sym (other else_one.0)) else_one.1
+
+pub in_after : (node : Node) (p : ℕ) (new : LocalState) (q : ℕ) (local : LocalState) (old : List LocalState) → (q ≡ p → old ≡ new ∷ []) → ((q ≡ p → ⊥) → old ≡ set_of node q) → Contains old local → IsAfter node p new q local
+in_after node p new q local old own other there = elim (cases_eq q p) [
+  | inl same ↦ elim (Contains-push_cases [] new local (subst (λ (l : List LocalState). Contains l local) (own same) there)) [
+    | inl none ↦ absurd (omega (arith, none.1))
+    | inr mine ↦ inl (same, sym mine)
+  ]
+  | inr apart ↦ inr (apart, subst (λ (l : List LocalState). Contains l local) (other apart) there)
+]
+
+-- a node that lacks something of that lacks it of the node that the write leads to
+pub lacks_below : (spec : RoomSpec) (node to other : Node) (p : ℕ) (new : LocalState) (row : List (Option ℕ)) → IsNext spec node p new to → row ≡ set node.row p new.last → LacksAfter spec node p new row other → IsNotBelow to other
+lacks_below spec node to other p new row next row_is (inl rows) = inl (λ same. rows (same ∙ next.row ∙ sym row_is))
+lacks_below spec node to other p new row next row_is (inr (inl widths)) = inr (inl (λ same. widths (sym same ∙ next.width)))
+lacks_below spec node to other p new row next row_is (inr (inr more)) =
+    let q = more.0 in
+    let within = more.2 in
+    let there : IsAfter node p new q more.1 → Contains (set_of to q) more.1 = λ is. elim is [
+      | inl mine ↦ subst (λ (r : ℕ). Contains (set_of to r) more.1) (sym mine.0) (subst (Contains (set_of to p)) (sym mine.1) (next.own.kept new (Contains-push [] new)))
+      | inr else_one ↦ (next.others q within else_one.0).kept more.1 else_one.1
+    ] in
+    inr (inr (q, more.1, omega (arith, within, next.width), there more.3, more.4))

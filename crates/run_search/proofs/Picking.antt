@@ -10,14 +10,12 @@ use Rattle.std.proofs.lemmas.Option.{get_or_from_slice_get, none-some, same_Some
 use Rattle.room_spec.specs.Rooms.{RoomSpec}
 use Rattle.run_search.specs.declared.ended.Ended.{Ended}
 use Rattle.run_search.specs.declared.local_state.LocalState.{LocalState}
-use Rattle.run_search.specs.declared.pick.Question.{Question}
-use Rattle.run_search.specs.declared.pick.Question.TheVariants.{Ends, Task}
 use Rattle.run_search.specs.Nodes.{IsPick, Node, set_of}
 use Rattle.run_search.specs.Outcomes.{ended, ends_in}
-use Rattle.run_search.specs.Picks.{AreLeast, ArePicks, ExtendsBy, HasStandIn, IsLeast, IsLeastSoFar, IsSame, fits}
+use Rattle.run_search.specs.Picks.{AreLeast, ArePicks, HasStandIn, IsLeast, IsLeastSoFar, IsSame}
 use Rattle.run_search.specs.States.{State, blank, events_in, events_of}
 use Rattle.run_search.proofs.Listing.{each_push}
-use Rattle.run_search.proofs.Answering.{few_before, same_more, same_on, same_own}
+use Rattle.run_search.proofs.Answering.{same_more, same_on, same_own}
 
 -- ---- one process more
 
@@ -48,23 +46,23 @@ none_picked = record { items = [] }
 
 -- ---- stand-ins
 
-pub stand_on : (spec : RoomSpec) (question : Question) (picks : List State) (state other : List LocalState) → HasStandIn spec question picks state → IsSame spec question state other → events_in state ≤ events_in other → HasStandIn spec question picks other
-stand_on spec question picks state other stand same less =
+pub stand_on : (spec : RoomSpec) (most : ℕ) (picks : List State) (state other : List LocalState) → HasStandIn spec most picks state → IsSame spec most state other → events_in state ≤ events_in other → HasStandIn spec most picks other
+stand_on spec most picks state other stand same less =
     let few = stand.3 in
-    (stand.0, stand.1, same_on spec question stand.0.items state other stand.2 same, omega (arith, less, few))
+    (stand.0, stand.1, same_on spec most stand.0.items state other stand.2 same, omega (arith, less, few))
 
-pub stands_itself : (spec : RoomSpec) (question : Question) (picks : List State) (pick : State) → Contains picks pick → HasStandIn spec question picks pick.items
-stands_itself spec question picks pick there = (pick, there, same_own spec question pick.items, omega arith)
+pub stands_itself : (spec : RoomSpec) (most : ℕ) (picks : List State) (pick : State) → Contains picks pick → HasStandIn spec most picks pick.items
+stands_itself spec most picks pick there = (pick, there, same_own spec most pick.items, omega arith)
 
-pub stand_kept : (spec : RoomSpec) (question : Question) (old new : List State) → ((one : State) → Contains old one → Contains new one) → (state : List LocalState) → HasStandIn spec question old state → HasStandIn spec question new state
-stand_kept spec question old new kept state stand = (stand.0, kept stand.0 stand.1, stand.2, stand.3)
+pub stand_kept : (spec : RoomSpec) (most : ℕ) (old new : List State) → ((one : State) → Contains old one → Contains new one) → (state : List LocalState) → HasStandIn spec most old state → HasStandIn spec most new state
+stand_kept spec most old new kept state stand = (stand.0, kept stand.0 stand.1, stand.2, stand.3)
 
 -- a pick in place of one that has the same answer and more events
-pub put_there : (spec : RoomSpec) (question : Question) (picks : List State) (i : ℕ) (pick : State) → i < length picks → HasStandIn spec question (set picks i pick) pick.items
-put_there spec question picks i pick below = let long = length-set picks i pick in stands_itself spec question (set picks i pick) pick (i, omega (arith, long, below), get_or-set_same picks i pick pick below)
+pub put_there : (spec : RoomSpec) (most : ℕ) (picks : List State) (i : ℕ) (pick : State) → i < length picks → HasStandIn spec most (set picks i pick) pick.items
+put_there spec most picks i pick below = let long = length-set picks i pick in stands_itself spec most (set picks i pick) pick (i, omega (arith, long, below), get_or-set_same picks i pick pick below)
 
-pub put_kept : (spec : RoomSpec) (question : Question) (picks : List State) (i : ℕ) (one pick : State) → slice_get picks i ≡ Some one → IsSame spec question pick.items one.items → events_in pick.items ≤ events_in one.items → (state : List LocalState) → HasStandIn spec question picks state → HasStandIn spec question (set picks i pick) state
-put_kept spec question picks i one pick is same fewer state stand =
+pub put_kept : (spec : RoomSpec) (most : ℕ) (picks : List State) (i : ℕ) (one pick : State) → slice_get picks i ≡ Some one → IsSame spec most pick.items one.items → events_in pick.items ≤ events_in one.items → (state : List LocalState) → HasStandIn spec most picks state → HasStandIn spec most (set picks i pick) state
+put_kept spec most picks i one pick is same fewer state stand =
     let long = length-set picks i pick in
     let few = stand.3 in
     elim (cases_eq stand.1.0 i) [
@@ -72,71 +70,71 @@ put_kept spec question picks i one pick is same fewer state stand =
           let below = slice_get_within picks i one is in
           let one_is : stand.0 ≡ one = same_Some stand.0 one (sym (slice_get-get_or picks stand.1.0 stand.0 stand.1.1 ∙ ap Some stand.1.2) ∙ ap (slice_get picks) here ∙ is) in
           let events_are = ap (λ (s : State). events_in s.items) one_is in
-          (pick, (i, omega (arith, long, below), get_or-set_same picks i pick pick below), same_on spec question pick.items one.items state same (subst (λ (s : State). IsSame spec question s.items state) one_is stand.2), omega (arith, few, fewer, events_are))
+          (pick, (i, omega (arith, long, below), get_or-set_same picks i pick pick below), same_on spec most pick.items one.items state same (subst (λ (s : State). IsSame spec most s.items state) one_is stand.2), omega (arith, few, fewer, events_are))
       | inr other ↦ (stand.0, (stand.1.0, let inside = stand.1.1 in omega (arith, long, inside), get_or-set_other picks i stand.1.0 pick stand.0 other ∙ stand.1.2), stand.2, stand.3)
     ]
 
 -- ---- the picks of the first processes
 
-pub picks_first : (spec : RoomSpec) (question : Question) (node : Node) (none : State) → none.items ≡ [] → fits question [] → ArePicks spec question node 0 (none ∷ [])
-picks_first spec question node none is fit = record {
+pub picks_first : (spec : RoomSpec) (most : ℕ) (node : Node) (none : State) → none.items ≡ [] → ArePicks spec most node 0 (none ∷ [])
+picks_first spec most node none is = record {
   each = λ pick there. elim (Contains-push_cases [] none pick there) [
     | inl before ↦ absurd (omega (arith, before.1))
     | inr same ↦
         let empty : [] ≡ pick.items = sym is ∙ ap (λ (s : State). s.items) same in
-        (subst (IsPick node 0) empty (no_pick node), subst (fits question) empty fit)
+        subst (IsPick node 0) empty (no_pick node)
   ];
-  all = λ state pick fit_state.
-      (none, Contains-push [] none, subst (IsSame spec question none.items) (is ∙ sym (none_else node state pick)) (same_own spec question none.items), let same = ap events_in (is ∙ sym (none_else node state pick)) in omega (arith, same));
+  all = λ state pick.
+      (none, Contains-push [] none, subst (IsSame spec most none.items) (is ∙ sym (none_else node state pick)) (same_own spec most none.items), let same = ap events_in (is ∙ sym (none_else node state pick)) in omega (arith, same));
 }
 
-pub picks_more : (spec : RoomSpec) (question : Question) (node : Node) (count : ℕ) (picks new : List State) (set options : List LocalState) → ArePicks spec question node count picks → set ≡ set_of node count → AreLeast set options
-    → ((one : State) → Contains new one → (pick : State) × Contains picks pick × (option : LocalState) × Contains options option × ExtendsBy question pick option one)
-    → ((pick : State) (option : LocalState) → Contains picks pick → Contains options option → fits question (pick.items ++ option ∷ []) → HasStandIn spec question new (pick.items ++ option ∷ []))
-    → ArePicks spec question node (count + 1) new
-picks_more spec question node count picks new set options are set_is least each all = record {
+pub picks_more : (spec : RoomSpec) (most : ℕ) (node : Node) (count : ℕ) (picks new : List State) (set options : List LocalState) → ArePicks spec most node count picks → set ≡ set_of node count → AreLeast set options
+    → ((one : State) → Contains new one → (pick : State) × Contains picks pick × (option : LocalState) × Contains options option × (one.items ≡ pick.items ++ option ∷ []))
+    → ((pick : State) (option : LocalState) → Contains picks pick → Contains options option → HasStandIn spec most new (pick.items ++ option ∷ []))
+    → ArePicks spec most node (count + 1) new
+picks_more spec most node count picks new set options are set_is least each all = record {
   each = λ one there.
       let from = each one there in
-      let pick = (are.each from.0 from.1).0 in
-      (subst (IsPick node (count + 1)) (sym from.4.0) (pick_push node count from.0.items from.2 pick (subst (λ (l : List LocalState). Contains l from.2) set_is (least.among from.2 from.3))), from.4.1);
-  all = λ state pick fit.
+      let pick = are.each from.0 from.1 in
+      subst (IsPick node (count + 1)) (sym from.4) (pick_push node count from.0.items from.2 pick (subst (λ (l : List LocalState). Contains l from.2) set_is (least.among from.2 from.3)));
+  all = λ state pick.
       let before = take count state in
       let last = get_or state count blank in
       let parts = pick_parts node count state pick in
       let option = least.all last (subst (λ (l : List LocalState). Contains l last) (sym set_is) (pick.each count (omega arith))) in
-      let stand = are.all before (pick_before node count state pick) (few_before question before last (subst (fits question) parts fit)) in
+      let stand = are.all before (pick_before node count state pick) in
       let one = stand.0 in
-      let more = same_more spec question one.items before option.0 last stand.2 option.2 (subst (fits question) parts fit) in
+      let more = same_more spec most one.items before option.0 last stand.2 option.2 in
       let sum_one = sum_by_push events_of one.items option.0 in
       let sum_state = sum_by_push events_of before last in
       let few = stand.3 in
       let less = option.3 in
-      subst (HasStandIn spec question new) (sym parts) (stand_on spec question new (one.items ++ option.0 ∷ []) (before ++ last ∷ []) (all one option.0 stand.1 option.1 more.1) more.0 (omega (arith, sum_one, sum_state, few, less)));
+      subst (HasStandIn spec most new) (sym parts) (stand_on spec most new (one.items ++ option.0 ∷ []) (before ++ last ∷ []) (all one option.0 stand.1 option.1) more (omega (arith, sum_one, sum_state, few, less)));
 }
 
 -- ---- the loop over picks
 
-abbrev Extends : Question → List State → List LocalState → List State → Type 0
-Extends question picks options new = (one : State) → Contains new one → (pick : State) × Contains picks pick × (option : LocalState) × Contains options option × ExtendsBy question pick option one
+abbrev Extends : List State → List LocalState → List State → Type 0
+Extends picks options new = (one : State) → Contains new one → (pick : State) × Contains picks pick × (option : LocalState) × Contains options option × (one.items ≡ pick.items ++ option ∷ [])
 
-abbrev AreTried : RoomSpec → Question → List State → List LocalState → List State → ℕ → Type 0
-AreTried spec question picks options new count =
-    (i : ℕ) (option : LocalState) → i < count → Contains options option → fits question ((get_or picks i none_picked).items ++ option ∷ []) → HasStandIn spec question new ((get_or picks i none_picked).items ++ option ∷ [])
+abbrev AreTried : RoomSpec → ℕ → List State → List LocalState → List State → ℕ → Type 0
+AreTried spec most picks options new count =
+    (i : ℕ) (option : LocalState) → i < count → Contains options option → HasStandIn spec most new ((get_or picks i none_picked).items ++ option ∷ [])
 
-pub extended_more : (spec : RoomSpec) (question : Question) (picks : List State) (options : List LocalState) (old new : List State) (i : ℕ) (pick : State) → i < length picks → pick ≡ get_or picks i pick → Extends question picks options old → AreTried spec question picks options old i
-    → ((one : State) → Contains new one → Contains old one ⊎ ((option : LocalState) × Contains options option × ExtendsBy question pick option one))
-    → ((option : LocalState) → Contains options option → fits question (pick.items ++ option ∷ []) → HasStandIn spec question new (pick.items ++ option ∷ []))
-    → ((state : List LocalState) → HasStandIn spec question old state → HasStandIn spec question new state) → Extends question picks options new × AreTried spec question picks options new (i + 1)
-extended_more spec question picks options old new i pick below pick_is each all more_each more_all kept = (
+pub extended_more : (spec : RoomSpec) (most : ℕ) (picks : List State) (options : List LocalState) (old new : List State) (i : ℕ) (pick : State) → i < length picks → pick ≡ get_or picks i pick → Extends picks options old → AreTried spec most picks options old i
+    → ((one : State) → Contains new one → Contains old one ⊎ ((option : LocalState) × Contains options option × (one.items ≡ pick.items ++ option ∷ [])))
+    → ((option : LocalState) → Contains options option → HasStandIn spec most new (pick.items ++ option ∷ []))
+    → ((state : List LocalState) → HasStandIn spec most old state → HasStandIn spec most new state) → Extends picks options new × AreTried spec most picks options new (i + 1)
+extended_more spec most picks options old new i pick below pick_is each all more_each more_all kept = (
   λ one there. elim (more_each one there) [
     | inl before ↦ each one before
     | inr by_option ↦ (pick, (i, below, sym pick_is), by_option.0, by_option.1, by_option.2)
   ],
-  λ k option less there fit. elim (cases_eq k i) [
+  λ k option less there. elim (cases_eq k i) [
     | inl same ↦
         let is : get_or picks k none_picked ≡ pick = ap (λ (j : ℕ). get_or picks j none_picked) same ∙ get_or_from_slice_get picks i pick none_picked (slice_get-get_or picks i pick below ∙ ap Some (sym pick_is)) in
-        subst (λ (s : State). HasStandIn spec question new (s.items ++ option ∷ [])) (sym is) (more_all option there (subst (λ (s : State). fits question (s.items ++ option ∷ [])) is fit))
-    | inr other ↦ kept ((get_or picks k none_picked).items ++ option ∷ []) (all k option (omega (arith, less, other)) there fit)
+        subst (λ (s : State). HasStandIn spec most new (s.items ++ option ∷ [])) (sym is) (more_all option there)
+    | inr other ↦ kept ((get_or picks k none_picked).items ++ option ∷ []) (all k option (omega (arith, less, other)) there)
   ],
 )
 
@@ -257,9 +255,5 @@ ends_are_these ends state d long each =
     let wide = length-ends state in
     ext_get_or d ends (ends_in state) (long ∙ sym wide) (λ p below. sym (end_at state p d (omega (arith, below, long)) ∙ each p (omega (arith, below, long))))
 
-pub fits_first : (question : Question) → fits question []
-fits_first (Ends crashes) = omega arith
-fits_first (Task most) = tt
-
-pub picks_short : (spec : RoomSpec) (question : Question) (node : Node) (count : ℕ) (picks : List State) (i : ℕ) (pick : State) → ArePicks spec question node count picks → slice_get picks i ≡ Some pick → length pick.items ≡ count
-picks_short spec question node count picks i pick are is = (are.each pick (i, slice_get_within picks i pick is, get_or_from_slice_get picks i pick pick is)).0.width
+pub picks_short : (spec : RoomSpec) (most : ℕ) (node : Node) (count : ℕ) (picks : List State) (i : ℕ) (pick : State) → ArePicks spec most node count picks → slice_get picks i ≡ Some pick → length pick.items ≡ count
+picks_short spec most node count picks i pick are is = (are.each pick (i, slice_get_within picks i pick is, get_or_from_slice_get picks i pick pick is)).width

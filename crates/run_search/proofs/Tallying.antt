@@ -1,19 +1,16 @@
 -- Outcomes are noted one by one.
 use Rattle.std.proofs.Common.{◌≡◌, ℕ, ◌+◌, ◌<◌, ◌≤◌, List, [], ◌∷◌, ◌++◌, length, get_or, set, Some, refl, sym, ap, ◌∙◌, subst, arith, inl, inr}
 use Rattle.std.specs.Prelude.{slice_get}
-use Rattle.std.specs.List.{Contains, count_by}
 use Rattle.std.proofs.lemmas.Bool.{cases_eq, cases_lt}
 use Rattle.std.proofs.lemmas.List.{get_or-set_other, get_or-set_same, length-set, length_push}
 use Rattle.std.proofs.lemmas.Option.{get_or_from_slice_get, same_Some, slice_get-get_or, slice_get_within}
-use Rattle.room_spec.specs.Rooms.{RoomSpec, processes}
+use Rattle.room_spec.specs.Rooms.{RoomSpec}
 use Rattle.transcript.proofs.CallerLemmas.{slice_get-append, slice_get-push}
 use Rattle.run_search.specs.declared.ended.Ended.{Ended}
-use Rattle.run_search.specs.declared.pick.Question.TheVariants as questions
 use Rattle.run_search.specs.declared.tally.Witness.{Witness}
 use Rattle.run_search.specs.Nodes.{Node}
-use Rattle.run_search.specs.Outcomes.{AreEnds, AreEndsOf, AreNoted, Ends, IsEndOf, IsFewerKept, IsNoted, ends_in, is_stopped}
-use Rattle.run_search.specs.Picks.{ArePicks}
-use Rattle.run_search.specs.States.{State, events_in}
+use Rattle.run_search.specs.Outcomes.{AreEnds, AreNoted, Ends, IsEndOf, IsFewerKept, IsNoted, ends_in}
+use Rattle.run_search.specs.States.{events_in}
 
 -- ---- one more
 
@@ -123,38 +120,10 @@ pub fewer_count : (old new : List Witness) (i : ℕ) (witness : Witness) → IsF
 fewer_count old new i witness (inl set_here) = ap length set_here.0 ∙ length-set old i witness
 fewer_count old new i witness (inr kept) = ap length kept.0
 
--- ---- the picks of a node
-
-pub end_of_pick : (spec : RoomSpec) (nodes : List Node) (crashes index : ℕ) (node : Node) (picks : List State) (pick : State) (ends : Ends) (events : ℕ) → ArePicks spec (questions.Ends crashes) node (processes spec) picks → Contains picks pick → slice_get nodes index ≡ Some node
-    → ends.items ≡ ends_in pick.items → events ≡ events_in pick.items → IsEndOf spec nodes crashes ends (record { node = index; events = events })
-end_of_pick spec nodes crashes index node picks pick ends events are there node_is ends_is events_are =
-    let one = are.each pick there in
-    record { node = node; there = node_is; state = pick.items; covers = one.0; ends_are = ends_is; few = subst (λ (o : List Ended). count_by is_stopped o ≤ crashes) (sym ends_is) one.1; events = events_are }
-
-pub more_events : (outcomes : List Ends) (witnesses : List Witness) (ends other : List Ended) (few events : ℕ) → ends ≡ other → few ≤ events → IsNoted outcomes witnesses ends few → IsNoted outcomes witnesses other events
-more_events outcomes witnesses ends other few events same less noted =
-    let before = noted.few in
-    subst (λ (e : List Ended). IsNoted outcomes witnesses e events) same (record { index = noted.index; witness = noted.witness; there = noted.there; witness_is = noted.witness_is; few = omega (arith, before, less) })
-
--- if each pick is noted, each state of the node is
-pub all_noted : (spec : RoomSpec) (crashes : ℕ) (node : Node) (picks : List State) (outcomes : List Ends) (witnesses : List Witness) → ArePicks spec (questions.Ends crashes) node (processes spec) picks
-    → ((pick : State) → Contains picks pick → IsNoted outcomes witnesses (ends_in pick.items) (events_in pick.items)) → AreNoted spec node crashes outcomes witnesses
-all_noted spec crashes node picks outcomes witnesses are each state covers few =
-    let stand = are.all state covers few in
-    more_events outcomes witnesses (ends_in stand.0.items) (ends_in state) (events_in stand.0.items) (events_in state) stand.2 stand.3 (each stand.0 stand.1)
-
-pub picks_end : (spec : RoomSpec) (nodes : List Node) (crashes index : ℕ) (node : Node) (picks : List State) → ArePicks spec (questions.Ends crashes) node (processes spec) picks → slice_get nodes index ≡ Some node → AreEndsOf spec nodes crashes index picks
-picks_end spec nodes crashes index node picks are node_is pick there = end_of_pick spec nodes crashes index node picks pick (record { items = ends_in pick.items }) (events_in pick.items) are there node_is refl refl
-
 -- ---- the loops
 
 pub no_ends : (spec : RoomSpec) (nodes : List Node) (crashes : ℕ) → AreEnds spec nodes crashes [] []
 no_ends spec nodes crashes = record { count = refl; each = λ i ends witness ends_is. absurd cc }
-
-pub picks_noted : (outcomes : List Ends) (witnesses : List Witness) (picks : List State) (count : ℕ) (d : State) → length picks ≤ count → ((i : ℕ) → i < count → IsNoted outcomes witnesses (ends_in (get_or picks i d).items) (events_in (get_or picks i d).items))
-    → (pick : State) → Contains picks pick → IsNoted outcomes witnesses (ends_in pick.items) (events_in pick.items)
-picks_noted outcomes witnesses picks count d all each pick there =
-    subst (λ (s : State). IsNoted outcomes witnesses (ends_in s.items) (events_in s.items)) (get_or_from_slice_get picks there.0 pick d (slice_get-get_or picks there.0 pick there.1 ∙ ap Some there.2)) (each there.0 (let inside = there.1 in omega (arith, inside, all)))
 
 pub nodes_noted : (spec : RoomSpec) (crashes : ℕ) (nodes : List Node) (index : ℕ) (node : Node) (old new : List Ends) (old_witnesses new_witnesses : List Witness) → slice_get nodes index ≡ Some node
     → ((ends : List Ended) (events : ℕ) → IsNoted old old_witnesses ends events → IsNoted new new_witnesses ends events) → AreNoted spec node crashes new new_witnesses
@@ -163,27 +132,3 @@ nodes_noted spec crashes nodes index node old new old_witnesses new_witnesses he
   | inl same ↦ subst (λ (n : Node). AreNoted spec n crashes new new_witnesses) (same_Some node one (sym here ∙ ap (slice_get nodes) (sym same) ∙ is)) noted
   | inr other ↦ λ state covers few. grown (ends_in state) (events_in state) (before i one (omega (arith, below, other)) is state covers few)
 ]
-
--- one pick more is noted
-pub notes_more : (old new : List Ends) (old_witnesses new_witnesses : List Witness) (picks : List State) (i : ℕ) (pick d : State) (ends : List Ended) (events : ℕ) → i < length picks → pick ≡ get_or picks i pick → ends ≡ ends_in pick.items → events ≡ events_in pick.items
-    → ((one : List Ended) (count : ℕ) → IsNoted old old_witnesses one count → IsNoted new new_witnesses one count) → IsNoted new new_witnesses ends events
-    → ((k : ℕ) → k < i → IsNoted old old_witnesses (ends_in (get_or picks k d).items) (events_in (get_or picks k d).items)) → (k : ℕ) → k < i + 1 → IsNoted new new_witnesses (ends_in (get_or picks k d).items) (events_in (get_or picks k d).items)
-notes_more old new old_witnesses new_witnesses picks i pick d ends events below pick_is ends_is events_are grown noted before k less = elim (cases_eq k i) [
-  | inl same ↦
-      let is : pick ≡ get_or picks k d = sym (ap (λ (j : ℕ). get_or picks j d) same ∙ get_or_from_slice_get picks i pick d (slice_get-get_or picks i pick below ∙ ap Some (sym pick_is))) in
-      let count = ap (λ (s : State). events_in s.items) is in
-      more_events new new_witnesses ends (ends_in (get_or picks k d).items) events (events_in (get_or picks k d).items) (ends_is ∙ ap (λ (s : State). ends_in s.items) is) (omega (arith, count, events_are)) noted
-  | inr other ↦ grown (ends_in (get_or picks k d).items) (events_in (get_or picks k d).items) (before k (omega (arith, less, other)))
-]
-
-pub end_same : (spec : RoomSpec) (nodes : List Node) (crashes index : ℕ) (pick : State) (ends : Ends) (events : ℕ) → ends.items ≡ ends_in pick.items → events ≡ events_in pick.items
-    → IsEndOf spec nodes crashes (record { items = ends_in pick.items }) (record { node = index; events = events_in pick.items }) → IsEndOf spec nodes crashes ends (record { node = index; events = events })
-end_same spec nodes crashes index pick ends events ends_is events_are end = record {
-  node = end.node;
-  there = end.there;
-  state = end.state;
-  covers = end.covers;
-  ends_are = ends_is ∙ end.ends_are;
-  few = subst (λ (o : List Ended). count_by is_stopped o ≤ crashes) (sym ends_is) end.few;
-  events = events_are ∙ end.events;
-}

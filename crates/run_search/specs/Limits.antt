@@ -6,7 +6,7 @@ use Rattle.std.specs.Global.{Vec}
 use Rattle.std.specs.Map.{lookup}
 use Rattle.std.specs.Option.{option_eq}
 use Rattle.arrayvec.specs.ArrayVec.{ArrayVec}
-use Rattle.room_spec.specs.Rooms.{RoomSpec}
+use Rattle.room_spec.specs.Rooms.{RoomSpec, processes}
 use Rattle.run_search.specs.declared.explored.Explored.{Explored}
 use Rattle.run_search.specs.declared.local_state.LocalState.{LocalState}
 use Rattle.run_search.specs.Nodes.{AreGathered, Covers, Node, set_of}
@@ -53,6 +53,21 @@ abbrev pub IsNotBelow : Node → Node → Type 0
 IsNotBelow node above =
     (above.row ≡ node.row → ⊥)
     ⊎ ((length node.sets ≡ length above.sets → ⊥) ⊎ ((p : ℕ) × (local : LocalState) × (p < length node.sets) × Contains (set_of node p) local × (Contains (set_of above p) local → ⊥)))
+
+-- what process q may be in when process p of the node is in this local state
+abbrev pub IsAfter : Node → ℕ → LocalState → ℕ → LocalState → Type 0
+IsAfter node p new q local = ((q ≡ p) × (local ≡ new)) ⊎ ((q ≡ p → ⊥) × Contains (set_of node q) local)
+
+-- another node has all of it, and this row
+pub record HasAfter (spec : RoomSpec) (node : Node) (p : ℕ) (new : LocalState) (row : List (Option ℕ)) (above : Node) : Type 0 where
+  pub row_is : above.row ≡ row
+  pub all : (q : ℕ) (local : LocalState) → q < processes spec → IsAfter node p new q local → Contains (set_of above q) local
+
+-- it has another row, or sets for another number of processes, or lacks one of these local states
+abbrev pub LacksAfter : RoomSpec → Node → ℕ → LocalState → List (Option ℕ) → Node → Type 0
+LacksAfter spec node p new row above =
+    (above.row ≡ row → ⊥)
+    ⊎ ((length above.sets ≡ processes spec → ⊥) ⊎ ((q : ℕ) × (local : LocalState) × (q < processes spec) × IsAfter node p new q local × (Contains (set_of above q) local → ⊥)))
 
 -- what a search has so far
 pub record IsSearched (spec : RoomSpec) (explored : Explored) : Type 0 where

@@ -211,12 +211,6 @@ pub record AreGathered (spec : RoomSpec) (nodes : List Node) : Type 0 where
 abbrev pub NodesGrow : List Node → List Node → Type 0
 NodesGrow old new = (more : List Node) × (new ≡ old ++ more)
 
--- where a local state of process p in the node of this index leads to by a write that changes memory, if it does
-abbrev pub LeadsTo : RoomSpec → ℕ → Node → ℕ → LocalState → Option Node → Type 0
-LeadsTo spec index node p local None = (next : LocalState) → Changes spec node.row p local next → ⊥
-LeadsTo spec index node p local (Some to) =
-    (next : LocalState) × Changes spec node.row p local next × IsNext spec node p next to × (to.origin ≡ record { from = index; process = p; local = local })
-
 -- the writes from the node of this index that change memory, of the first local states of process p, lead to some of the nodes
 abbrev pub HasEdgesBelow : RoomSpec → List Node → Node → ℕ → ℕ → Type 0
 HasEdgesBelow spec nodes node p count = (i : ℕ) (local : LocalState) → i < count → slice_get (set_of node p) i ≡ Some local → HasEdge spec nodes node p local

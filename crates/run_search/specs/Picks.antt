@@ -1,13 +1,11 @@
--- Picks: states of a node, of which some stand for all.
-use Rattle.std.specs.Prelude.{◌≡◌, ◌⊎◌, ◌↔◌, ⊤, ℕ, ◌<◌, ◌≤◌, Option, Some, None, List, slice_get, [], ◌∷◌, ◌++◌}
-use Rattle.std.specs.List.{Contains, count_by}
+-- Picks: states of a node, one for all that decide the same values.
+use Rattle.std.specs.Prelude.{◌≡◌, ◌⊎◌, ◌↔◌, ℕ, ◌<◌, ◌≤◌, Option, Some, None, List, slice_get}
+use Rattle.std.specs.List.{Contains}
 use Rattle.room_spec.specs.Rooms.{RoomSpec}
 use Rattle.run_search.specs.declared.ended.Ended.{Ended}
 use Rattle.run_search.specs.declared.local_state.LocalState.{LocalState}
-use Rattle.run_search.specs.declared.pick.Question.{Question}
-use Rattle.run_search.specs.declared.pick.Question.TheVariants.{Ends, Task}
 use Rattle.run_search.specs.Nodes.{AreIn, IsPick, Node}
-use Rattle.run_search.specs.Outcomes.{ended, ends_in, is_stopped}
+use Rattle.run_search.specs.Outcomes.{ended}
 use Rattle.run_search.specs.States.{State, events_in, events_of}
 use Rattle.run_search.specs.Tasks.{AreFewInputs, decided_values}
 
@@ -19,28 +17,18 @@ Breaks spec most state = AreFewInputs spec most (decided_values state) → ⊥
 abbrev pub DecideSame : List LocalState → List LocalState → Type 0
 DecideSame one other = (v : ℕ) → Contains (decided_values one) v ↔ Contains (decided_values other) v
 
--- of the state is to be answered
-abbrev pub fits : Question → List LocalState → Type 0
-fits (Ends crashes) state = count_by is_stopped (ends_in state) ≤ crashes
-fits (Task most) state = ⊤
+-- the same values are decided in both, or both break the task
+abbrev pub IsSame : RoomSpec → ℕ → List LocalState → List LocalState → Type 0
+IsSame spec most one other = (Breaks spec most one × Breaks spec most other) ⊎ DecideSame one other
 
--- the answer is the same for both
-abbrev pub IsSame : RoomSpec → Question → List LocalState → List LocalState → Type 0
-IsSame spec (Ends crashes) one other = ends_in one ≡ ends_in other
-IsSame spec (Task most) one other = (Breaks spec most one × Breaks spec most other) ⊎ DecideSame one other
-
--- one of the picks has the same answer, and no more events
-abbrev pub HasStandIn : RoomSpec → Question → List State → List LocalState → Type 0
-HasStandIn spec question picks state = (pick : State) × Contains picks pick × IsSame spec question pick.items state × (events_in pick.items ≤ events_in state)
+-- one of the picks is so, and has no more events
+abbrev pub HasStandIn : RoomSpec → ℕ → List State → List LocalState → Type 0
+HasStandIn spec most picks state = (pick : State) × Contains picks pick × IsSame spec most pick.items state × (events_in pick.items ≤ events_in state)
 
 -- these are picks of the first processes of the node, and one stands for each
-pub record ArePicks (spec : RoomSpec) (question : Question) (node : Node) (count : ℕ) (picks : List State) : Type 0 where
-  pub each : (pick : State) → Contains picks pick → IsPick node count pick.items × fits question pick.items
-  pub all : (state : List LocalState) → IsPick node count state → fits question state → HasStandIn spec question picks state
-
--- the pick has one process more, and is to be answered
-abbrev pub ExtendsBy : Question → State → LocalState → State → Type 0
-ExtendsBy question pick option one = (one.items ≡ pick.items ++ option ∷ []) × fits question one.items
+pub record ArePicks (spec : RoomSpec) (most : ℕ) (node : Node) (count : ℕ) (picks : List State) : Type 0 where
+  pub each : (pick : State) → Contains picks pick → IsPick node count pick.items
+  pub all : (state : List LocalState) → IsPick node count state → HasStandIn spec most picks state
 
 -- of the local states with this end it has the fewest events
 pub record IsLeast (set : List LocalState) (end : Ended) (local : LocalState) : Type 0 where

@@ -2,13 +2,13 @@
 ghost use Rattle.std.specs.Prelude.{◌≡◌, ◌<◌, ◌≤◌, ◌⊎◌, ◌∷◌, ◌++◌, [], ℕ, List, Option, true, false, Some, IfErr, IfOk, OnOk, length, slice_get};
 ghost use Rattle.std.specs.List.{Contains};
 ghost use Rattle.room_spec.specs.Rooms.{processes};
-ghost use Rattle.run_search.specs.Limits.{AreListed, AreTooMany, IsListed, IsNotBelow, IsSearched};
+ghost use Rattle.run_search.specs.Limits.{AreListed, AreTooMany, HasAfter, IsListed, IsNotBelow, IsSearched, LacksAfter};
 ghost use Rattle.run_search.specs.declared.fault.SearchFault.TheVariants.{TooManyNodes};
 ghost use Rattle.run_search.specs.Nodes.{AreGathered, CoverAllReachable, HasEdge, HasEdges, HasEdgesBelow, IsBelow, IsBelowLater, Node as NodeValue, NodesGrow, set_of};
 ghost use Rattle.run_search.specs.declared.local_state.LocalState.{LocalState as LocalValue};
 
 use crate::fault::SearchFault;
-use crate::node::{Node, Place, copied};
+use crate::node::{After, Node, Place, copied, has_after};
 use crate::progress::Progress;
 use indexmap::IndexMap;
 use protocol_lang::View;
@@ -122,13 +122,55 @@ impl Explored {
             slice_get self.old.nodes.items place.node ≡ Some node → slice_get (set_of node place.process) place.index ≡ Some local →
             HasEdge spec.now self.new.nodes.items node place.process local) }
     {
-        let Some(to) = self.nodes[place.node as usize].edge(alloc, spec, place)? else {
+        let node = &self.nodes[place.node as usize];
+        let Some(new) = node.written(spec, place) else {
             return Ok(());
         };
-        if !self.has_above(&to, 0) {
-            self.add(alloc, to)?;
+        let row = node.row_after(place.process, new.last);
+        let after = After {
+            node,
+            process: place.process,
+            new,
+            row: &row,
+        };
+        if self.has_after(spec, &after) {
+            return Ok(());
         }
+        let to = node.edge(alloc, spec, place, new)?;
+        self.add(alloc, to)?;
         Ok(())
+    }
+
+    /// Whether one of the nodes has what a node has after a write. Then it has all that the node has that the write leads to, since it is closed.
+    fn has_after(&self, spec: &Spec, after: &After<'_>) -> bool
+        requires listed { AreListed self.now.by_row.entries self.now.nodes.items }
+        requires width { length after.now.node.now.sets ≡ processes spec.now }
+        ensures has { result ≡ true → (index : ℕ) × (above : NodeValue) × (slice_get self.now.nodes.items index ≡ Some above) ×
+            HasAfter spec.now after.now.node.now after.now.process after.now.new after.now.row.now.items above }
+        ensures lacks { result ≡ false → (index : ℕ) (other : NodeValue) → slice_get self.now.nodes.items index ≡ Some other →
+            LacksAfter spec.now after.now.node.now after.now.process after.now.new after.now.row.now.items other }
+    {
+        let Some(indices) = self.by_row.get(after.row) else {
+            return false;
+        };
+        for index in indices.as_slice() {
+            if self.has_after_at(spec, after, *index) {
+                return true;
+            }
+        }
+        false
+    }
+
+    /// Whether the node of this index has that.
+    fn has_after_at(&self, spec: &Spec, after: &After<'_>, index: usize) -> bool
+        requires { length after.now.node.now.sets ≡ processes spec.now }
+        ensures has { result ≡ true → (above : NodeValue) × (slice_get self.now.nodes.items index ≡ Some above) × HasAfter spec.now after.now.node.now after.now.process after.now.new after.now.row.now.items above }
+        ensures lacks { result ≡ false → (other : NodeValue) → slice_get self.now.nodes.items index ≡ Some other → LacksAfter spec.now after.now.node.now after.now.process after.now.new after.now.row.now.items other }
+    {
+        match self.nodes.get(index) {
+            None => false,
+            Some(above) => has_after(spec, after, above),
+        }
     }
 
     /// Whether one of the nodes from this index on has all that this one has.

@@ -1,12 +1,12 @@
 //! Nodes: for each process a set of local states that it may be in while memory stays as it is.
-ghost use Rattle.run_search.specs.Limits.{IsNotBelow};
-ghost use Rattle.std.specs.Prelude.{◌≡◌, ◌<◌, ◌⊎◌, ◌∷◌, ℕ, [], true, false, IfOk, MatchBool, MatchOption, OnOk, Some, length, slice_get, slice_set};
+ghost use Rattle.run_search.specs.Limits.{HasAfter, IsNotBelow, LacksAfter};
+ghost use Rattle.std.specs.Prelude.{◌≡◌, ◌<◌, ◌⊎◌, ◌∷◌, ℕ, [], List, Option, true, false, IfOk, IfSome, MatchBool, MatchOption, OnOk, Some, length, slice_get, slice_set};
 ghost use Rattle.std.specs.List.{Contains};
-ghost use Rattle.room_spec.specs.Rooms.{processes};
-ghost use Rattle.run_search.specs.Nodes.{AreIn, AreWithinRounds, Covers, GoesAlone, IsAdded, IsBelow, IsComeTo, IsFirst, IsGrown, IsLocalBefore, IsNext, IsNodeAfter, IsSetClosed, IsStateBefore, IsWhole, IsWithinRounds, LeadsTo, MovesAlone, Node as NodeValue, set_of};
+ghost use Rattle.room_spec.specs.Rooms.{RoomSpec, processes};
+ghost use Rattle.run_search.specs.Nodes.{AreIn, AreWithinRounds, Changes, Covers, GoesAlone, IsAdded, IsBelow, IsComeTo, IsFirst, IsGrown, IsLocalBefore, IsNext, IsNodeAfter, IsSetClosed, IsStateBefore, IsWhole, IsWithinRounds, Moves, MovesAlone, Node as NodeValue, set_of};
 ghost use Rattle.run_search.specs.declared.local_state.LocalState.{LocalState as LocalValue};
 
-use crate::local_state::{LocalState, Origin, State};
+use crate::local_state::{Due, LocalState, Origin, State};
 use crate::step::{moved, opening, row_of};
 use protocol_lang::View;
 use room_spec::Spec;
@@ -31,6 +31,15 @@ pub struct Node {
 pub struct IndexedNode<'a> {
     pub index: usize,
     pub node: &'a Node,
+}
+
+/// A node after a write of this process: its local state then, and the last writes then.
+#[derive(Clone, Copy)]
+pub struct After<'a> {
+    pub node: &'a Node,
+    pub process: usize,
+    pub new: LocalState,
+    pub row: &'a View,
 }
 
 /// Where a local state is: the index of its node, the process, and its index among the local states of the process there.
@@ -61,7 +70,7 @@ impl Node {
     {
         let state = opening(spec);
         let row = row_of(&state);
-        let mut sets = Vec::new(alloc);
+        let mut sets = Vec::with_capacity(alloc, spec.n())?;
         for p in 0..spec.n() {
             let set = close(alloc, &[state.as_slice()[p]], &row, spec, p)?;
             sets.push(set)?;
@@ -125,7 +134,7 @@ impl Node {
         let p = usize::from(origin.process);
         let own = [new];
         let row = row_with(&self.row, p, new.last);
-        let mut sets = Vec::new(alloc);
+        let mut sets = Vec::with_capacity(alloc, spec.n())?;
         for q in 0..spec.n() {
             let old = self.old_after(p, &own, q);
             let set = close(alloc, old, &row, spec, q)?;
@@ -134,33 +143,61 @@ impl Node {
         Ok(Node { row, sets, origin })
     }
 
-    /// The node that the local state of this place leads to by a write that changes memory, if it does. This node is that of the place.
+    /// The local state of this place after its next step, if that is a write that changes memory.
+    pub fn written(&self, spec: &Spec, place: Place) -> Option<LocalState>
+        requires whole { IsWhole spec.now self.now }
+        requires process { place.process < processes spec.now }
+        requires there { place.index < length (set_of self.now place.process) }
+        ensures changes { (local : LocalValue) → slice_get (set_of self.now place.process) place.index ≡ Some local →
+            MatchOption result ((next : LocalValue) → Changes spec.now self.now.row place.process local next → ⊥) (λ new. Changes spec.now self.now.row place.process local new) }
+        ensures rounds { IfSome result (IsWithinRounds spec.now) }
+    {
+        let local = self.set(place.process)[place.index];
+        if !changes(&local) {
+            return None;
+        }
+        let Some(new) = moved(&local, &self.row, spec, place.process) else {
+            return None;
+        };
+        Some(new)
+    }
+
+    /// The last writes after process `p` has written.
+    pub fn row_after(&self, p: usize, last: Option<u32>) -> View
+        requires { p < length self.now.row }
+        ensures { result.items ≡ slice_set self.now.row p last }
+    {
+        row_with(&self.row, p, last)
+    }
+
+    /// The node that a write leads to by which the process of this place is in this local state. This node is that of the place.
     ///
     /// # Errors
     ///
     /// An allocation that fails.
-    pub fn edge(&self, alloc: Global, spec: &Spec, place: Place) -> Result<Option<Node>, AllocError>
+    pub fn edge(
+        &self,
+        alloc: Global,
+        spec: &Spec,
+        place: Place,
+        new: LocalState,
+    ) -> Result<Node, AllocError>
         requires whole { IsWhole spec.now self.now }
         requires process { place.process < processes spec.now }
         requires there { place.index < length (set_of self.now place.process) }
-        ensures { IfOk result (λ to. (local : LocalValue) → slice_get (set_of self.now place.process) place.index ≡ Some local → LeadsTo spec.now place.node self.now place.process local to) }
+        requires rounds { IsWithinRounds spec.now new }
+        ensures next { IfOk result (IsNext spec.now self.now place.process new) }
+        ensures origin { IfOk result (λ to. (local : LocalValue) → slice_get (set_of self.now place.process) place.index ≡ Some local → to.origin ≡ record { from = place.node; process = place.process; local = local }) }
     {
         let p = place.process;
-        let local = self.set(p)[place.index];
-        let Some(new) = moved(&local, &self.row, spec, p) else {
-            return Ok(None);
-        };
-        if new.last == local.last {
-            return Ok(None);
-        }
         let _n = spec.n(); // for the proof: it is at most 16
         let origin = Origin {
             from: place.node,
             process: p as u8,
-            local,
+            local: self.set(p)[place.index],
         };
         let to = self.after(alloc, spec, new, origin)?;
-        Ok(Some(to))
+        Ok(to)
     }
 
     /// Whether another node has all that this one has.
@@ -222,6 +259,28 @@ impl Node {
     }
 }
 
+/// Whether another node has what a node has after a write: all that the one has that the write leads to.
+pub fn has_after(spec: &Spec, after: &After<'_>, above: &Node) -> bool
+    requires width { length after.now.node.now.sets ≡ processes spec.now }
+    ensures has { result ≡ true → HasAfter spec.now after.now.node.now after.now.process after.now.new after.now.row.now.items above.now }
+    ensures lacks { result ≡ false → LacksAfter spec.now after.now.node.now after.now.process after.now.new after.now.row.now.items above.now }
+{
+    if after.row.as_slice() != above.row.as_slice() {
+        return false;
+    }
+    if above.sets.len() != spec.n() {
+        return false;
+    }
+    let own = [after.new];
+    for q in 0..spec.n() {
+        let old = after.node.old_after(after.process, &own, q);
+        if !is_within(old, above.set(q)) {
+            return false;
+        }
+    }
+    true
+}
+
 /// The row after process `p` has written.
 fn row_with(row: &View, p: usize, last: Option<u32>) -> View
     requires { p < length row.now.items }
@@ -249,26 +308,38 @@ fn moved_alone(local: &LocalState, row: &View, spec: &Spec, p: usize) -> Option<
     requires rounds { IsWithinRounds spec.now local.now }
     ensures { MatchOption result ((other : LocalValue) → MovesAlone spec.now row.now.items p local.now other → ⊥) (λ new. MovesAlone spec.now row.now.items p local.now new) }
 {
+    if changes(local) {
+        return None;
+    }
     let new = moved(local, row, spec, p)?;
-    if new.last == local.last {
-        Some(new)
-    } else {
-        None
+    Some(new)
+}
+
+/// Whether the next step from this local state changes the last writes, if there is one.
+fn changes(local: &LocalState) -> bool
+    ensures { (spec : RoomSpec) (row : List (Option ℕ)) (p : ℕ) (next : LocalValue) → Moves spec row p local.now next → MatchBool result (next.last ≡ local.now.last → ⊥) (next.last ≡ local.now.last) }
+{
+    match local.due {
+        Due::Write(v) => local.last != Some(v),
+        Due::Snap | Due::Decide(_) | Due::Decided(_) | Due::Spent => false,
     }
 }
 
-/// Adds a local state to a set, unless it is there.
-fn put(set: &mut LocalSet, local: LocalState) -> Result<(), AllocError>
+/// Adds a local state to a set, unless it is there. Gives whether it was added.
+fn put(set: &mut LocalSet, local: LocalState) -> Result<bool, AllocError>
     ensures there { OnOk result (Contains set.new.items local) }
     ensures added { OnOk result (IsAdded set.old.items local set.new.items) }
+    ensures known { IfOk result (λ added. added ≡ false → set.new.items ≡ set.old.items) }
 {
-    if !set.as_slice().contains(&local) {
-        set.push(local)?;
+    if set.as_slice().contains(&local) {
+        return Ok(false);
     }
-    Ok(())
+    set.push(local)?;
+    Ok(true)
 }
 
-/// Adds a local state of process `p` to a set, and all that follow from it by steps that leave the last writes as they are.
+/// Adds a local state of process `p` to a set, and all that follow from it by steps that leave the last writes as they are. What follows from one
+/// that is there is there too.
 ///
 /// # Errors
 ///
@@ -287,10 +358,14 @@ fn go_on(
     ensures come { OnOk result ((to : LocalValue) → Contains set.new.items to → Contains set.old.items to ⊎ ((steps : ℕ) × GoesAlone spec.now row.now.items p steps local to)) }
     ensures closed { OnOk result (IsSetClosed spec.now row.now.items p set.old.items → IsSetClosed spec.now row.now.items p set.new.items) }
 {
+    if !put(set, local)? {
+        return Ok(());
+    }
     let mut now = local;
-    put(set, now)?;
     while let Some(new) = moved_alone(&now, row, spec, p) {
-        put(set, new)?;
+        if !put(set, new)? {
+            return Ok(());
+        }
         now = new;
     }
     Ok(())
@@ -312,7 +387,7 @@ fn close(
     requires rounds { AreWithinRounds spec.now old.now }
     ensures { IfOk result (λ set. IsGrown spec.now row.now.items p old.now set.items) }
 {
-    let mut set = Vec::new(alloc);
+    let mut set = Vec::with_capacity(alloc, old.len() + 2)?;
     for local in old {
         go_on(&mut set, *local, row, spec, p)?;
     }
@@ -323,6 +398,9 @@ fn close(
 fn is_within(some: &[LocalState], all: &[LocalState]) -> bool
     ensures { MatchBool result (AreIn some.now all.now) ((local : LocalValue) × Contains some.now local × (Contains all.now local → ⊥)) }
 {
+    if some == all {
+        return true;
+    }
     for local in some {
         if !all.contains(local) {
             return false;

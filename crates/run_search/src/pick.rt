@@ -4,28 +4,19 @@ ghost use Rattle.std.specs.List.{Contains};
 ghost use Rattle.room_spec.specs.Rooms.{processes};
 ghost use Rattle.run_search.specs.Nodes.{Covers};
 ghost use Rattle.run_search.specs.Outcomes.{ended, ends_in};
-ghost use Rattle.run_search.specs.declared.pick.Question.TheVariants as Question;
-ghost use Rattle.run_search.specs.Picks.{AreLeast, ArePicks, ExtendsBy, HasStandIn, IsLeast, IsLeastSoFar, IsSame, fits};
+ghost use Rattle.run_search.specs.Picks.{AreLeast, ArePicks, HasStandIn, IsLeast, IsLeastSoFar, IsSame};
 ghost use Rattle.run_search.specs.States.{State as StateValue, events_in, events_of};
 ghost use Rattle.run_search.specs.declared.local_state.LocalState.{LocalState as LocalValue};
 
-use crate::ended::{Ended, Ends, end_of, ends_of, stopped_in};
+use crate::ended::{Ended, Ends, end_of};
 use crate::local_state::{LocalState, State, events_of};
 use crate::node::Node;
 use crate::task::is_same_task;
 use room_spec::Spec;
 use std::alloc::{AllocError, Global};
 
-/// What is asked of the picks of a node: of two that answer it alike, the one with fewer events is enough.
-#[derive(Clone, Copy)]
-pub enum Question {
-    /// How the processes end, if at most this number of them stop.
-    Ends(usize),
-    /// Which values they decide, up to those that break a task of at most this number of values.
-    Task(usize),
-}
-
-/// Picks of the node, of which one answers the question as each pick does, with no more events.
+/// Picks of the node, of which one decides the same values as each pick does, or breaks the task as it does, with no more events. The task allows
+/// `most` different values.
 ///
 /// # Errors
 ///
@@ -33,17 +24,17 @@ pub enum Question {
 pub fn picks_of(
     alloc: Global,
     spec: &Spec,
-    question: &Question,
+    most: usize,
     node: &Node,
 ) -> Result<Vec<State>, AllocError>
     requires { length node.now.sets ≡ processes spec.now }
-    ensures { IfOk result (λ picks. ArePicks spec.now question.now node.now (processes spec.now) picks.items) }
+    ensures { IfOk result (λ picks. ArePicks spec.now most node.now (processes spec.now) picks.items) }
 {
     let mut picks = Vec::new(alloc);
     picks.push(State::new())?;
     for p in 0..spec.n() {
         let options = least_of(alloc, node.set(p))?;
-        picks = extended(alloc, spec, question, picks.as_slice(), options.as_slice())?;
+        picks = extended(alloc, spec, most, picks.as_slice(), options.as_slice())?;
     }
     Ok(picks)
 }
@@ -125,19 +116,19 @@ fn lesser(least: Option<LocalState>, local: LocalState, end: Ended) -> Option<Lo
 fn extended(
     alloc: Global,
     spec: &Spec,
-    question: &Question,
+    most: usize,
     picks: &[State],
     options: &[LocalState],
 ) -> Result<Vec<State>, AllocError>
     requires { (i : ℕ) (pick : StateValue) → slice_get picks.now i ≡ Some pick → length pick.items < 16 }
     ensures each { IfOk result (λ new. (one : StateValue) → Contains new.items one →
-        (pick : StateValue) × Contains picks.now pick × (option : LocalValue) × Contains options.now option × ExtendsBy question.now pick option one) }
+        (pick : StateValue) × Contains picks.now pick × (option : LocalValue) × Contains options.now option × (one.items ≡ pick.items ++ option ∷ [])) }
     ensures all { IfOk result (λ new. (pick : StateValue) (option : LocalValue) → Contains picks.now pick → Contains options.now option →
-        fits question.now (pick.items ++ option ∷ []) → HasStandIn spec.now question.now new.items (pick.items ++ option ∷ [])) }
+        HasStandIn spec.now most new.items (pick.items ++ option ∷ [])) }
 {
     let mut new = Vec::new(alloc);
     for pick in picks {
-        extend_one(spec, question, &mut new, pick, options)?;
+        extend_one(spec, most, &mut new, pick, options)?;
     }
     Ok(new)
 }
@@ -145,20 +136,19 @@ fn extended(
 /// Adds the picks that extend one by one of these local states.
 fn extend_one(
     spec: &Spec,
-    question: &Question,
+    most: usize,
     picks: &mut Vec<State>,
     pick: &State,
     options: &[LocalState],
 ) -> Result<(), AllocError>
     requires { length pick.now.items < 16 }
     ensures each { OnOk result ((one : StateValue) → Contains picks.new.items one →
-        Contains picks.old.items one ⊎ ((option : LocalValue) × Contains options.now option × ExtendsBy question.now pick.now option one)) }
-    ensures all { OnOk result ((option : LocalValue) → Contains options.now option → fits question.now (pick.now.items ++ option ∷ []) →
-        HasStandIn spec.now question.now picks.new.items (pick.now.items ++ option ∷ [])) }
-    ensures kept { OnOk result ((state : List LocalValue) → HasStandIn spec.now question.now picks.old.items state → HasStandIn spec.now question.now picks.new.items state) }
+        Contains picks.old.items one ⊎ ((option : LocalValue) × Contains options.now option × (one.items ≡ pick.now.items ++ option ∷ []))) }
+    ensures all { OnOk result ((option : LocalValue) → Contains options.now option → HasStandIn spec.now most picks.new.items (pick.now.items ++ option ∷ [])) }
+    ensures kept { OnOk result ((state : List LocalValue) → HasStandIn spec.now most picks.old.items state → HasStandIn spec.now most picks.new.items state) }
 {
     for option in options {
-        add(spec, question, picks, with(pick, *option))?;
+        add(spec, picks, most, with(pick, *option))?;
     }
     Ok(())
 }
@@ -184,45 +174,11 @@ pub fn copied(state: &State) -> State
     copy
 }
 
-/// Adds a pick, if it answers the question and none of those that are there does alike with no more events.
-fn add(
-    spec: &Spec,
-    question: &Question,
-    picks: &mut Vec<State>,
-    pick: State,
-) -> Result<(), AllocError>
-    ensures each { OnOk result ((one : StateValue) → Contains picks.new.items one → Contains picks.old.items one ⊎ ((one ≡ pick) × fits question.now pick.items)) }
-    ensures there { OnOk result (fits question.now pick.items → HasStandIn spec.now question.now picks.new.items pick.items) }
-    ensures kept { OnOk result ((state : List LocalValue) → HasStandIn spec.now question.now picks.old.items state → HasStandIn spec.now question.now picks.new.items state) }
-{
-    match question {
-        Question::Ends(crashes) => add_if_few(picks, *crashes, pick),
-        Question::Task(most) => add_if_fewer(spec, picks, *most, pick),
-    }
-}
-
-/// Adds a pick if at most `crashes` processes stop in it.
-fn add_if_few(picks: &mut Vec<State>, crashes: usize, pick: State) -> Result<(), AllocError>
-    ensures each { OnOk result ((one : StateValue) → Contains picks.new.items one → Contains picks.old.items one ⊎ ((one ≡ pick) × fits (Question.Ends crashes) pick.items)) }
-    ensures there { OnOk result (fits (Question.Ends crashes) pick.items → Contains picks.new.items pick) }
-    ensures kept { OnOk result ((one : StateValue) → Contains picks.old.items one → Contains picks.new.items one) }
-{
-    if stopped_in(&ends_of(&pick)) <= crashes {
-        picks.push(pick)?;
-    }
-    Ok(())
-}
-
 /// Adds a pick; of two that decide the same values, or both break the task, the one with fewer events stays.
-fn add_if_fewer(
-    spec: &Spec,
-    picks: &mut Vec<State>,
-    most: usize,
-    pick: State,
-) -> Result<(), AllocError>
-    ensures each { OnOk result ((one : StateValue) → Contains picks.new.items one → Contains picks.old.items one ⊎ ((one ≡ pick) × fits (Question.Task most) pick.items)) }
-    ensures there { OnOk result (HasStandIn spec.now (Question.Task most) picks.new.items pick.items) }
-    ensures kept { OnOk result ((state : List LocalValue) → HasStandIn spec.now (Question.Task most) picks.old.items state → HasStandIn spec.now (Question.Task most) picks.new.items state) }
+fn add(spec: &Spec, picks: &mut Vec<State>, most: usize, pick: State) -> Result<(), AllocError>
+    ensures each { OnOk result ((one : StateValue) → Contains picks.new.items one → Contains picks.old.items one ⊎ (one ≡ pick)) }
+    ensures there { OnOk result (HasStandIn spec.now most picks.new.items pick.items) }
+    ensures kept { OnOk result ((state : List LocalValue) → HasStandIn spec.now most picks.old.items state → HasStandIn spec.now most picks.new.items state) }
 {
     let Some(index) = same_task_in(spec, picks.as_slice(), most, &pick) else {
         picks.push(pick)?;
@@ -236,7 +192,7 @@ fn add_if_fewer(
 
 /// The index of a pick that decides the same values, or breaks the task as this one does.
 fn same_task_in(spec: &Spec, picks: &[State], most: usize, pick: &State) -> Option<usize>
-    ensures { IfSome result (λ index. (one : StateValue) × (slice_get picks.now index ≡ Some one) × IsSame spec.now (Question.Task most) one.items pick.now.items) }
+    ensures { IfSome result (λ index. (one : StateValue) × (slice_get picks.now index ≡ Some one) × IsSame spec.now most one.items pick.now.items) }
 {
     for index in 0..picks.len() {
         if is_same_task(spec, most, &picks[index], pick) {

@@ -589,13 +589,21 @@ function readVerdicts(answer) {
   return { refused, verdicts };
 }
 
-// A room with its events; the one that breaks its run says why.
+// The index of the event that a verdict names by its line, or -1.
+function brokenBy(verdict, moments) {
+  const [, line] = / line (\d+)$/.exec(verdict) || [];
+  return moments.findIndex(moment => moment.line === Number(line));
+}
+
+// A room with its events; one that breaks its run or a task says why.
 function judgedRoom(block, verdicts, events) {
   const moments = events.filter(event => event.text.startsWith(block.name + ' ')).map(readEvent);
-  const broken = / is not a run: line (\d+)$/.exec(verdicts[0][0]);
-  const at = broken ? moments.findIndex(moment => moment.line === Number(broken[1])) : -1;
-  if (at >= 0) moments[at].because = verdicts[0].slice(2).join(' ');
-  return { ...block, moments, broken: at, verdicts: verdicts.map(([verdict]) => verdict), show: TRANSCRIPT };
+  for (const [verdict, , ...reason] of verdicts) {
+    const at = brokenBy(verdict, moments);
+    if (at >= 0) moments[at].because = reason.join(' ');
+  }
+  const [run] = verdicts[0];
+  return { ...block, moments, broken: run.includes(' is not a run') ? brokenBy(run, moments) : -1, verdicts: verdicts.map(([verdict]) => verdict), show: TRANSCRIPT };
 }
 
 function readJudged(transcript, answer) {

@@ -19,14 +19,14 @@ pub page_of : (part none first second third : List ℕ) → none ≡ [] → firs
 page_of part none first second third start one two three = is_page part third (joined BEGIN.now part END.now none first second third start one two three)
 
 -- a file by itself
-pub one_page : (file : List ℕ) (ending : Result Outcome AllocError) (answer none first second third : List ℕ) → IsFileAnswer (kind_of file) file ending answer
-    → none ≡ [] → first ≡ none ++ BEGIN.now → second ≡ first ++ file_text (kind_of file) file answer → third ≡ second ++ END.now → IsPageFor (file ∷ []) ending third
-one_page file ending answer none first second third is start one two three = record {
+pub page_of_one : (file : List ℕ) (ending : Result Outcome AllocError) (answer page : List ℕ) → IsFileAnswer (kind_of file) file ending answer → page ≡ page_text (file_text (kind_of file) file answer)
+    → IsPageFor (file ∷ []) ending page
+page_of_one file ending answer page is page_is = record {
   all = record { file = file; ending = ending; answer = answer } ∷ [];
   each_file = refl;
   answered = (is, tt);
   ending_is = refl;
-  page_is = page_of (file_text (kind_of file) file answer) none first second third start one two three ∙ ap page_text (sym (append-nil (file_text (kind_of file) file answer)));
+  page_is = page_is ∙ ap page_text (sym (append-nil (file_text (kind_of file) file answer)));
 }
 
 -- two of them

@@ -1,5 +1,5 @@
 -- A page that steps through the rooms of a file, or of two next to each other.
-use Rattle.std.specs.Prelude.{◌≡◌, ⊤, ℕ, List, [], ◌∷◌, map, Option, Some, None, Result, Ok, Err}
+use Rattle.std.specs.Prelude.{◌≡◌, ⊤, ℕ, false, List, [], ◌∷◌, map, Option, Some, None, Result, Ok, Err}
 use Rattle.std.specs.List.{flat_map}
 use Rattle.std.specs.Option.{option_or}
 use Rattle.std.specs.declared.alloc.AllocError.{AllocError}
@@ -17,6 +17,8 @@ use Rattle.step_page.specs.Pages.{file_text, page_text}
 use Rattle.step_page.specs.declared.page.FileKind.{FileKind}
 use Rattle.step_page.specs.declared.page.FileKind.TheVariants.{Script, Transcript}
 use Rattle.view_trace.specs.Trace.{IsJsonTraceFor}
+use Rattle.protocol_lang.specs.Trees.{Tree}
+use Rattle.view_why.specs.Keeping.{IsKeptExplanation}
 use Rattle.view_why.specs.Why.{IsExplanationFor}
 
 abbrev pub answered_as : Kind → FileKind
@@ -81,6 +83,12 @@ pub record IsPageFor (files : List (List ℕ)) (ending : Result Outcome AllocErr
   pub answered : AreAnswered all
   pub ending_is : ending ≡ ending_of_all (map (λ one. one.ending) all)
   pub page_is : page ≡ page_text (flat_map answered_text all)
+
+-- The page of a transcript holds it, and what `why` answers to it if its runs are judged by a task of one's own.
+pub record IsKeptPage (lines : List Tree) (transcript : List ℕ) (outcome : Outcome) (page : List ℕ) : Type 0 where
+  pub answer : List ℕ
+  pub answered : IsKeptExplanation false lines transcript outcome answer
+  pub page_is : page ≡ page_text (file_text Transcript transcript answer)
 
 -- the first fault of the first file that has one
 abbrev pub fault_among : List (List ℕ) → Option FaultAt

@@ -2,16 +2,20 @@
 ghost use Rattle.std.specs.Prelude.{◌≡◌, ◌≤◌, ◌∷◌, ◌++◌, [], IfErr, IfOk, OnOk, length};
 ghost use Rattle.io_text.specs.Reading.{most_bytes};
 ghost use Rattle.view_page.specs.Faults.{AreBothFaults, AreFileFaults, said_in};
-ghost use Rattle.view_page.specs.Pages.{IsFaultOf, IsFileAnswer, IsPageFor, both, fault_among, first_fault, kind_of};
+ghost use Rattle.room_files.specs.Blocks.{IsFaultOr};
+ghost use Rattle.room_files.specs.Inputs.{MayLackMemory, input_says};
+ghost use Rattle.step_page.specs.Pages.{file_text, page_text};
+ghost use Rattle.view_page.specs.Pages.{IsFaultOf, IsFileAnswer, IsKeptPage, IsPageFor, both, fault_among, first_fault, kind_of};
 
+use decision_tasks::DecisionTask;
 use file_faults::{Kind, script_faults, transcript_faults};
 use io_text::Text;
-use room_files::{InputFault, Outcome};
+use room_files::{Answer, InputFault, Outcome};
 use script_play::PlayText;
 use std::alloc::{AllocError, Global};
 use step_page::{FileKind, begin_page, end_page, put_file};
 use view_trace::trace_json;
-use view_why::explain;
+use view_why::{explain, explain_kept};
 
 /// What a file is answered as: rooms alone are no transcript.
 fn kind_of(file: &[u8]) -> FileKind
@@ -102,14 +106,45 @@ pub fn page(alloc: Global, file: &[u8]) -> Result<PlayText, InputFault>
     ensures err { IfErr result (IsFaultOf (fault_among (file.now ∷ []))) }
 {
     let answer = answer_to(alloc, file)?;
-    let mut output = Text::new(alloc);
-    begin_page(&mut output)?;
-    put_file(&mut output, kind_of(file), file, answer.output.as_bytes())?;
-    end_page(&mut output)?;
+    let output = one_page(alloc, kind_of(file), file, answer.output.as_bytes())?;
     Ok(PlayText {
         output,
         ending: answer.ending,
     })
+}
+
+/// The page that steps through a transcript, and says what `why` does if its runs are judged by a task of one's own.
+///
+/// # Errors
+///
+/// The transcript's first fault, or an allocation that failed.
+pub fn page_of_kept(
+    alloc: Global,
+    transcript: &[u8],
+    task: &DecisionTask,
+) -> Result<Answer, InputFault>
+    requires { length transcript.now ≤ most_bytes }
+    ensures text { IfOk result (λ paged. IsKeptPage task.now transcript.now paged.outcome paged.output) }
+    ensures err { IfErr result (IsFaultOr (MayLackMemory transcript.now) (input_says transcript.now)) }
+{
+    let answer = explain_kept(alloc, transcript, false, task)?;
+    let said = answer.output.as_bytes();
+    let output = one_page(alloc, FileKind::Transcript, transcript, said)?;
+    Ok(Answer {
+        output,
+        outcome: answer.outcome,
+    })
+}
+
+/// The page of one file, with this answer to it.
+fn one_page(alloc: Global, kind: FileKind, file: &[u8], answer: &[u8]) -> Result<Text, AllocError>
+    ensures { IfOk result (λ page. page ≡ page_text (file_text kind file.now answer.now)) }
+{
+    let mut output = Text::new(alloc);
+    begin_page(&mut output)?;
+    put_file(&mut output, kind, file, answer)?;
+    end_page(&mut output)?;
+    Ok(output)
 }
 
 /// The page that steps through two files next to each other.

@@ -30,9 +30,9 @@ reached_line count nodes = reached_words count ++ ((32 ∷ decimal nodes) ++ cod
 abbrev pub missed_words : ℕ → List ℕ
 missed_words missed = codes "some outcomes may be missing: for" ++ ((32 ∷ decimal missed) ++ codes " of")
 
--- for how many nodes no schedule was found
+-- for how many nodes, which may have others, no schedule was found
 abbrev pub missed_line : ℕ → ℕ → List ℕ
-missed_line missed nodes = missed_words missed ++ ((32 ∷ decimal nodes) ++ codes " nodes no schedule was found within the turns of the room; try more turns\n")
+missed_line missed nodes = missed_words missed ++ ((32 ∷ decimal nodes) ++ codes " nodes, which may have others, no schedule was found within the turns of the room; try more turns\n")
 
 abbrev pub end_line : Reach → List ℕ
 end_line reach = if reach.missed == 0 then reached_line (length reach.outcomes.items) reach.nodes else missed_line reach.missed reach.nodes

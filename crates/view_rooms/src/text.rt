@@ -115,7 +115,9 @@ fn write_missed(output: &mut Text, missed: u64, nodes: u64) -> Result<(), AllocE
 {
     write_missed_words(output, missed)?;
     output.put_number(nodes)?;
-    output.put(b" nodes no schedule was found within the turns of the room; try more turns\n")
+    output.put(
+        b" nodes, which may have others, no schedule was found within the turns of the room; try more turns\n",
+    )
 }
 
 fn write_missed_words(output: &mut Text, missed: u64) -> Result<(), AllocError>

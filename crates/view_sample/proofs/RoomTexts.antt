@@ -81,7 +81,7 @@ module _ (plan : Plan) (top : Option ℕ) (spec : RoomSpec) (block : List ℕ) (
   same_end true outcomes broken = refl
   same_end false outcomes broken = refl
 
-  pub listed : (outcomes ordered : List Counted) (shown : List Shown) (broken : Option Shown) (well : Bool) (text : List ℕ) → IsPermutation outcomes ordered → AreMostFirst ordered
+  pub listed : (outcomes ordered : List Counted) (shown : List Shown) (broken : Option Shown) (well : Bool) (text : List ℕ) → IsPermutation outcomes ordered → AreMostFirst plan.from ordered
       → AreShown spec plan.crashes (not plan.brief) (take (shown_count top (length ordered)) ordered) shown → IsShownIf spec plan.crashes (shows_breaking plan) (first_broken spec outcomes) broken → well ≡ has_held spec outcomes
       → text ≡ shown_text plan.json plan spec.name block ordered shown ++ end_text plan.json plan spec block outcomes broken → IsListed (cut_plan plan plan.schedules top) spec block outcomes well text
   listed outcomes ordered shown broken well text permuted first are broken_is well_is text_is = record {
@@ -99,7 +99,7 @@ module _ (plan : Plan) (top : Option ℕ) (spec : RoomSpec) (block : List ℕ) (
   }
 
 pub chosen : (number : ℕ) (plan : Plan) (spec : RoomSpec) (block : List ℕ) (outcomes ordered : List Counted) (shown : Option Shown) (well : Bool) (before after text : List ℕ) → IsWithinLimits spec → block_in block ≡ Ok (spec, length block) → IsPermutation outcomes ordered
-    → AreMostFirst ordered → IsShownIf spec plan.crashes (shows_alone plan) (slice_get ordered (number - 1)) shown → well ≡ is_some (slice_get ordered (number - 1)) → text ≡ alone_shown plan.json plan spec.name block (length ordered) number shown
+    → AreMostFirst plan.from ordered → IsShownIf spec plan.crashes (shows_alone plan) (slice_get ordered (number - 1)) shown → well ≡ is_some (slice_get ordered (number - 1)) → text ≡ alone_shown plan.json plan spec.name block (length ordered) number shown
     → after ≡ before ++ text → (text : List ℕ) × IsChosen number plan spec block outcomes well text × (after ≡ before ++ text)
 chosen number plan spec block outcomes ordered shown well before after text limits own permuted first is well_is text_is after_is = (
   text,
@@ -179,7 +179,7 @@ first_of (one ∷ examples) (suc n) = ap (λ (shown : List Shown). shown_of one 
 
 -- some of the outcomes were shown, or none
 pub fewer_listed : (plan : Plan) (spec : RoomSpec) (block : List ℕ) (outcomes ordered : List Counted) (examples : List Example) (broken : Option Shown) (well : Bool) (end before after : List ℕ) → IsWithinLimits spec → block_in block ≡ Ok (spec, length block)
-    → IsPermutation outcomes ordered → AreMostFirst ordered → AreShown spec plan.crashes (not plan.brief) (take (length examples) ordered) (map shown_of examples) → length examples ≤ shown_count plan.top (length ordered)
+    → IsPermutation outcomes ordered → AreMostFirst plan.from ordered → AreShown spec plan.crashes (not plan.brief) (take (length examples) ordered) (map shown_of examples) → length examples ≤ shown_count plan.top (length ordered)
     → IsShownIf spec plan.crashes (shows_breaking plan) (first_broken spec outcomes) broken → well ≡ has_held spec outcomes → end ≡ end_text plan.json plan spec block outcomes broken
     → (after ≡ before) ⊎ ((most : ℕ) × (most ≤ length examples) × (after ≡ before ++ (shown_text plan.json plan spec.name block ordered (map shown_of (take most examples)) ++ end))) → ListsFewer plan spec block outcomes before after
 fewer_listed plan spec block outcomes ordered examples broken well end before after limits own permuted first are few broken_is well_is end_is (inl same) = inl same
@@ -200,7 +200,7 @@ fewer_listed plan spec block outcomes ordered examples broken well end before af
 
 -- as many as were made, which are fewer than were asked for
 pub made_listed : (plan : Plan) (spec : RoomSpec) (block : List ℕ) (outcomes ordered : List Counted) (examples : List Example) (broken : Option Shown) (well : Bool) (end before after : List ℕ) → IsWithinLimits spec → block_in block ≡ Ok (spec, length block)
-    → IsPermutation outcomes ordered → AreMostFirst ordered → AreShown spec plan.crashes (not plan.brief) (take (length examples) ordered) (map shown_of examples) → length examples ≤ shown_count plan.top (length ordered)
+    → IsPermutation outcomes ordered → AreMostFirst plan.from ordered → AreShown spec plan.crashes (not plan.brief) (take (length examples) ordered) (map shown_of examples) → length examples ≤ shown_count plan.top (length ordered)
     → IsShownIf spec plan.crashes (shows_breaking plan) (first_broken spec outcomes) broken → well ≡ has_held spec outcomes → end ≡ end_text plan.json plan spec block outcomes broken
     → after ≡ before ++ (shown_text plan.json plan spec.name block ordered (map shown_of examples) ++ end) → ListsFewer plan spec block outcomes before after
 made_listed plan spec block outcomes ordered examples broken well end before after limits own permuted first are few broken_is well_is end_is after_is =
@@ -217,7 +217,7 @@ made_listed plan spec block outcomes ordered examples broken well end before aft
 
 -- all that were asked for
 pub whole_listed : (plan : Plan) (spec : RoomSpec) (block : List ℕ) (outcomes ordered : List Counted) (examples : List Example) (broken : Option Shown) (well : Bool) (end before after : List ℕ) → IsWithinLimits spec → block_in block ≡ Ok (spec, length block)
-    → IsPermutation outcomes ordered → AreMostFirst ordered → AreShown spec plan.crashes (not plan.brief) (take (length examples) ordered) (map shown_of examples) → length examples ≡ shown_count plan.top (length ordered)
+    → IsPermutation outcomes ordered → AreMostFirst plan.from ordered → AreShown spec plan.crashes (not plan.brief) (take (length examples) ordered) (map shown_of examples) → length examples ≡ shown_count plan.top (length ordered)
     → IsShownIf spec plan.crashes (shows_breaking plan) (first_broken spec outcomes) broken → well ≡ has_held spec outcomes → end ≡ end_text plan.json plan spec block outcomes broken
     → after ≡ before ++ (shown_text plan.json plan spec.name block ordered (map shown_of examples) ++ end) → (text : List ℕ) × IsListed plan spec block outcomes well text × (after ≡ before ++ text)
 whole_listed plan spec block outcomes ordered examples broken well end before after limits own permuted first are all broken_is well_is end_is after_is =

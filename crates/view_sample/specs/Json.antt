@@ -24,11 +24,11 @@ schedule_data schedule = array (items_of (map stretch_data schedule))
 abbrev pub schedule_unless : Bool → List Stretch → Data
 schedule_unless brief schedule = if brief then null else schedule_data schedule
 
--- an outcome: the states of the processes in it, a schedule that leads there, and how often it came
+-- an outcome: the number of the first schedule that led to it, the states of the processes in it, a schedule that leads there, and how often it came
 abbrev pub outcome_data : List ℕ → Bool → Shown → Data
 outcome_data name brief one =
-    object (member (codes "processes") (processes_data one.states) (member (codes "room") (string name)
-    (member (codes "schedule") (schedule_unless brief one.schedule) (member (codes "times") (number (unsigned one.times)) no_members))))
+    object (member (codes "first") (number (unsigned one.first)) (member (codes "processes") (processes_data one.states) (member (codes "room") (string name)
+    (member (codes "schedule") (schedule_unless brief one.schedule) (member (codes "times") (number (unsigned one.times)) no_members)))))
 
 abbrev pub outcome_line : List ℕ → Bool → Shown → List ℕ
 outcome_line name brief one = json_line (outcome_data name brief one)

@@ -41,7 +41,7 @@ shows_alone plan = not plan.brief || not plan.json
 pub record IsListed (plan : Plan) (spec : RoomSpec) (block : List ℕ) (outcomes : List Counted) (well : Bool) (text : List ℕ) : Type 0 where
   pub ordered : List Counted
   pub all_ordered : IsPermutation outcomes ordered
-  pub most_first : AreMostFirst ordered
+  pub most_first : AreMostFirst plan.from ordered
   pub shown : List Shown
   pub are_shown : AreShown spec plan.crashes (not plan.brief) (take (shown_count plan.top (length ordered)) ordered) shown
   -- the script of each outcome leads to it
@@ -56,7 +56,7 @@ pub record IsListed (plan : Plan) (spec : RoomSpec) (block : List ℕ) (outcomes
 pub record IsChosen (number : ℕ) (plan : Plan) (spec : RoomSpec) (block : List ℕ) (outcomes : List Counted) (well : Bool) (text : List ℕ) : Type 0 where
   pub ordered : List Counted
   pub all_ordered : IsPermutation outcomes ordered
-  pub most_first : AreMostFirst ordered
+  pub most_first : AreMostFirst plan.from ordered
   pub shown : Option Shown
   pub is_shown : IsShownIf spec plan.crashes (shows_alone plan) (slice_get ordered (number - 1)) shown
   pub script : shows_alone plan ≡ true → IfSome shown (HasScript spec.name block)

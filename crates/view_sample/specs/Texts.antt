@@ -51,10 +51,12 @@ number_words number things = (32 ∷ decimal number) ++ things
 abbrev pub number_line : List ℕ → List ℕ → ℕ → List ℕ → List ℕ
 number_line name words number things = name ++ ((words ++ (32 ∷ decimal number)) ++ things)
 
+-- how many values were decided at most, and how many processes were held
+abbrev pub most_numbers : List ℕ → ℕ → ℕ → List ℕ
+most_numbers name values held = codes "\n" ++ (number_line name (codes " decided at most") values (codes " values\n") ++ number_line name (codes " held at most") held (codes " processes\n"))
+
 abbrev pub most_lines : List ℕ → List Counted → List ℕ
-most_lines name outcomes =
-    codes "\n"
-    ++ (number_line name (codes " decided at most") (most_of values_in outcomes) (codes " values\n") ++ number_line name (codes " held at most") (most_of held_in outcomes) (codes " processes\n"))
+most_lines name outcomes = most_numbers name (most_of values_in outcomes) (most_of held_in outcomes)
 
 -- how many outcomes are shown
 abbrev pub shown_count : Option ℕ → ℕ → ℕ

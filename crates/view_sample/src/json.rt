@@ -17,7 +17,11 @@ use serde_json::{Value, json};
 use std::alloc::{AllocError, Global};
 
 /// Writes these outcomes of the room of this name, an object a line.
-pub(crate) fn write_outcome_lines(
+///
+/// # Errors
+///
+/// An allocation that fails.
+pub fn write_outcome_lines(
     alloc: Global,
     output: &mut Text,
     name: &str,
@@ -32,7 +36,12 @@ pub(crate) fn write_outcome_lines(
     Ok(())
 }
 
-fn write_outcome_line(
+/// Writes an outcome of the room of this name on a line.
+///
+/// # Errors
+///
+/// An allocation that fails.
+pub fn write_outcome_line(
     alloc: Global,
     output: &mut Text,
     name: &str,
@@ -97,14 +106,20 @@ pub(crate) fn write_room_line(
     write_line(alloc, output, &value)
 }
 
-/// An outcome: how often it came, the states of the processes, and a schedule that leads to it, unless that is left out.
+/// An outcome: how often it came, by which schedule first, the states of the processes, and a schedule that leads to it, unless that is left out.
 fn outcome_value(alloc: Global, name: &str, brief: bool, one: &Example) -> Result<Value, AllocError>
     ensures { IfOk result (λ value. view value ≡ outcome_data name.now brief (shown_of one.now)) }
 {
     let processes = processes_value(alloc, one.states.as_slice())?;
     let schedule = schedule_unless(alloc, brief, one.schedule.as_slice())?;
-    let times = one.times;
-    json!(in alloc; {"processes": processes, "room": name, "schedule": schedule, "times": times})
+    let (first, times) = (one.first, one.times);
+    json!(in alloc; {
+        "first": first,
+        "processes": processes,
+        "room": name,
+        "schedule": schedule,
+        "times": times
+    })
 }
 
 /// A schedule, stretch by stretch, unless schedules are left out.

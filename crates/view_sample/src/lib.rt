@@ -14,7 +14,10 @@ mod task_text;
 mod text;
 
 pub use counts::values_in;
-pub use json::schedule_unless;
+pub use json::{schedule_unless, write_outcome_line, write_outcome_lines};
 pub use kept::{KeptPlan, sample_kept};
-pub use sample::sample_blocks;
-pub use text::write_script_unless;
+pub use sample::{sample_blocks, write_closing};
+pub use task_text::{write_broken_line, write_held};
+pub use text::{
+    write_most_numbers, write_new_words, write_outcomes, write_plan, write_script_unless,
+};

@@ -153,7 +153,7 @@ fn write_listed(
     let broken = broken_example(room, &outcomes)?;
     let mut end = Text::new(room.alloc);
     write_end(room, &mut end, &outcomes, broken.as_ref())?;
-    outcomes.sort_by_times()?;
+    outcomes.sort_by_times(room.plan.from)?;
     let most = shown_count(plan.top, outcomes.len());
     let showing = Showing {
         spec: room.spec,
@@ -292,7 +292,7 @@ fn write_chosen(
     ensures whole { IfOk result (λ well. (text : List ℕ) × IsChosen number room.now.plan.now room.now.spec.now room.now.block.now outcomes well text × (output.new ≡ output.old ++ text)) }
     ensures err { OnErr result (output.new ≡ output.old) }
 {
-    outcomes.sort_by_times()?;
+    outcomes.sort_by_times(room.plan.from)?;
     let scripts = shows_alone(room.plan);
     let showing = Showing {
         spec: room.spec,

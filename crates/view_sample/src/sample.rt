@@ -73,9 +73,16 @@ pub(crate) fn head_of(alloc: Global, plan: &Plan, refused: Text) -> Text
 pub(crate) fn write_last(output: &mut Text, plan: &Plan) -> Result<(), AllocError>
     ensures { OnOk result (output.new ≡ output.old ++ last_of (is_for_people plan.now)) }
 {
-    if is_for_people(plan) {
-        output.put(LAST)
-    } else {
-        Ok(())
-    }
+    write_closing(output, is_for_people(plan))
+}
+
+/// Writes, in text for people, that these are samples.
+///
+/// # Errors
+///
+/// An allocation that fails.
+pub fn write_closing(output: &mut Text, people: bool) -> Result<(), AllocError>
+    ensures { OnOk result (output.new ≡ output.old ++ last_of people) }
+{
+    if people { output.put(LAST) } else { Ok(()) }
 }

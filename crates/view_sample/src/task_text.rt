@@ -42,7 +42,12 @@ pub(crate) fn has_held(spec: &Spec, outcomes: &Tally) -> bool
     spec.task().is_none() || first_broken(spec, outcomes).is_none()
 }
 
-fn write_held(output: &mut Text, name: &[u8], plan: &Plan) -> Result<(), AllocError>
+/// Writes that a room's task held in all schedules of a plan.
+///
+/// # Errors
+///
+/// An allocation that fails.
+pub fn write_held(output: &mut Text, name: &[u8], plan: &Plan) -> Result<(), AllocError>
     ensures { OnOk result (output.new ≡ output.old ++ held_line name.now plan.now) }
 {
     let schedules = u64::from(plan.schedules);
@@ -63,7 +68,12 @@ fn write_broken(
     write_script_unless(output, plan.brief, name, room.block, schedule)
 }
 
-fn write_broken_line(
+/// Writes in how many schedules of a plan a room's task was broken.
+///
+/// # Errors
+///
+/// An allocation that fails.
+pub fn write_broken_line(
     output: &mut Text,
     name: &[u8],
     plan: &Plan,

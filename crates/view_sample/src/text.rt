@@ -2,7 +2,7 @@
 ghost use Rattle.std.specs.Prelude.{◌≡◌, ◌≤◌, ◌++◌, ◌∷◌, OnOk, codes, decimal, map, option_map};
 ghost use Rattle.std.specs.List.{flat_map};
 ghost use Rattle.room_sample.specs.Shown.{shown_of};
-ghost use Rattle.view_sample.specs.Texts.{alone_text, count_words, from_words, most_lines, new_line, new_words, none_line, number_line, number_words, outcome_text, outcome_texts, plan_end, plan_line, sample_text, script_text, script_unless, shown_count, stretch_line};
+ghost use Rattle.view_sample.specs.Texts.{alone_text, count_words, from_words, most_lines, most_numbers, new_line, new_words, none_line, number_line, number_words, outcome_text, outcome_texts, plan_end, plan_line, sample_text, script_text, script_unless, shown_count, stretch_line};
 
 use crate::counts::{most_of, once_in};
 use crate::sampled::Sampled;
@@ -28,7 +28,12 @@ pub(crate) fn write_sample(
     write_new(output, name, plan, outcomes)
 }
 
-fn write_plan(output: &mut Text, name: &[u8], plan: &Plan) -> Result<(), AllocError>
+/// Writes by which schedules a room was run.
+///
+/// # Errors
+///
+/// An allocation that fails.
+pub fn write_plan(output: &mut Text, name: &[u8], plan: &Plan) -> Result<(), AllocError>
     ensures { OnOk result (output.new ≡ output.old ++ plan_line name.now plan.now) }
 {
     write_schedules(output, name, plan.schedules)?;
@@ -76,7 +81,12 @@ fn write_number(output: &mut Text, words: &[u8], number: u64) -> Result<(), Allo
     output.put_number(number)
 }
 
-fn write_outcomes(
+/// Writes these outcomes of a room: how often each came, and a script for `play` that leads to it, unless scripts are left out.
+///
+/// # Errors
+///
+/// An allocation that fails.
+pub fn write_outcomes(
     output: &mut Text,
     brief: bool,
     name: &[u8],
@@ -231,6 +241,22 @@ fn write_most(output: &mut Text, name: &[u8], outcomes: &Tally) -> Result<(), Al
     ensures { OnOk result (output.new ≡ output.old ++ most_lines name.now outcomes.now) }
 {
     let (values, held) = most_of(outcomes);
+    write_most_numbers(output, name, values, held)
+}
+
+/// Writes how many values were decided at most, and how many processes were held at most.
+///
+/// # Errors
+///
+/// An allocation that fails.
+pub fn write_most_numbers(
+    output: &mut Text,
+    name: &[u8],
+    values: usize,
+    held: usize,
+) -> Result<(), AllocError>
+    ensures { OnOk result (output.new ≡ output.old ++ most_numbers name.now values held) }
+{
     output.put(b"\n")?;
     write_most_values(output, name, values)?;
     write_most_held(output, name, held)
@@ -268,7 +294,12 @@ fn write_new(
     write_new_words(output, name, count, once, u64::from(plan.schedules))
 }
 
-fn write_new_words(
+/// Writes how many outcomes there are, and how likely a further schedule leads to a new one, by how many of them came once.
+///
+/// # Errors
+///
+/// An allocation that fails.
+pub fn write_new_words(
     output: &mut Text,
     name: &[u8],
     count: u64,

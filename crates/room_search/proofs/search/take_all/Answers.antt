@@ -1,32 +1,53 @@
-use Rattle.std.proofs.Common.{inl, inr, sym, ap, ◌∙◌, arith}
+use Rattle.std.proofs.Common.{◌≡◌, ◌<◌, ◌∙◌, inl, inr, ℕ, List, Some, length, get_or, sym, ap, arith}
 use Rattle.std.specs.Prelude.{slice_get}
 use Rattle.std.proofs.lemmas.Bool.{cases_eq}
-use Rattle.std.proofs.lemmas.Option.{slice_get_within}
+use Rattle.std.proofs.lemmas.Option.{get_or_from_slice_get}
+use Rattle.room_search.specs.Nodes.{Node}
+use Rattle.room_search.specs.Taking.{IsTaken}
 use Rattle.room_search.proofs.Noting.{taken_grown}
+use Rattle.room_search.proofs.Taken.{item_there}
 use Rattle.room_search.proofs.search.take_all.Goals as goal
+use Rattle.room_search.proofs.search.take_all.Goals.{else-not-branch, then-not-branch}
 
-pub loop-index-init : goal.loop-index-init
-loop-index-init c = record {
-  taking = c.nothing-taking.ensures c.args.subject.now.spec.now c.args.crashes;
-  all = λ zero k node below there. absurd (omega (arith, below));
-}
+slice_get_at : (list : List ℕ) (place one : ℕ) → place < length list → get_or list place one ≡ one → slice_get list place ≡ Some one
+slice_get_at list place one inside is = let there = item_there list place inside in there.1 ∙ ap Some (sym (get_or_from_slice_get list place there.0 one there.1) ∙ is)
 
-pub loop-index-preserved : goal.loop-index-preserved
-loop-index-preserved c =
+pub take_first-requires-clause-taking : goal.take_first-requires-clause-taking
+take_first-requires-clause-taking c = c.nothing-taking.ensures c.args.subject.now.spec.now c.args.crashes
+
+pub loop-place-preserved : goal.loop-place-preserved
+loop-place-preserved c =
+    let spec = c.args.subject.now.spec.now in
     let explored = c.args.explored.now in
-    let old = c.loop-index.taking in
-    let new = c.take.new.self in
+    let old = c.loop-place.taking.done.keys in
+    let new = c.take.new.self.done.keys in
+    let grown : (node : Node) → IsTaken spec c.args.crashes explored.table.keys old node → IsTaken spec c.args.crashes explored.table.keys new node =
+    λ node taken. taken_grown spec c.args.crashes explored.table.keys old new node c.in_ok-take.ensures.grown taken in
+    let here : c.if-not-branch.missed ≡ 0 → (k : ℕ) (node : Node) → slice_get c.in_ok-left.left.items c.loop-place.place ≡ Some k → slice_get explored.nodes.items k ≡ Some node → IsTaken spec c.args.crashes explored.table.keys new node
+    = λ zero k node at there. elim c.if-not-branch.branch [
+      | then-not-branch w ↦ let more = w.saturating_add-missed.ensures in let missed = w.missed-is in absurd (omega (arith, zero, missed, more))
+      | else-not-branch w ↦
+          let is : c.index.result.now ≡ k = c.index.ensures ∙ get_or_from_slice_get c.in_ok-left.left.items c.loop-place.place k c.index.result.now at in
+          c.in_ok-take.ensures.taken w.if-not-branch.false node (ap (slice_get explored.nodes.items) is ∙ there)
+    ] in
+    let before : c.if-not-branch.missed ≡ 0 → c.loop-place.missed ≡ 0 = λ zero. elim c.if-not-branch.branch [
+      | then-not-branch w ↦ let more = w.saturating_add-missed.ensures in let missed = w.missed-is in absurd (omega (arith, zero, missed, more))
+      | else-not-branch w ↦ sym w.missed-is ∙ zero
+    ] in
     record {
       taking = c.in_ok-take.ensures.taking;
-      all = λ zero k node below there. elim (cases_eq k c.loop-index.index) [
-        | inl same ↦ c.in_ok-take.ensures.taken node (ap (slice_get explored.nodes.items) (sym same) ∙ there) zero
-        | inr apart ↦
-            taken_grown c.args.subject.now.spec.now c.args.crashes explored.table.keys old.done.keys new.done.keys node c.in_ok-take.ensures.grown
-            (c.loop-index.invariant.all (let missed = c.in_ok-take.ensures.missed in omega (arith, zero, missed)) k node (omega (arith, below, apart)) there)
+      first = λ k node there. elim (c.loop-place.invariant.first k node there) [
+        | inl taken ↦ inl (grown node taken)
+        | inr waits ↦ inr waits
+      ];
+      rest = λ zero p k node below at there. elim (cases_eq p c.loop-place.place) [
+        | inl same ↦ here zero k node (ap (slice_get c.in_ok-left.left.items) (sym same) ∙ at) there
+        | inr apart ↦ grown node (c.loop-place.invariant.rest (before zero) p k node (omega (arith, below, apart)) at there)
       ];
     }
 
 pub returns-clause-all : goal.returns-clause-all
-returns-clause-all c = λ zero index node there.
-    let inside = slice_get_within c.args.explored.now.nodes.items index node there in
-    c.loop-index.invariant.all zero index node (omega (arith, inside, c.loop-index-test.false, c.len-count.ensures)) there
+returns-clause-all c = λ zero index node there. elim (c.loop-place.invariant.first index node there) [
+  | inl taken ↦ taken
+  | inr waits ↦ c.loop-place.invariant.rest zero waits.0 index node (let inside = waits.1 in omega (arith, inside, c.loop-place-test.false, c.len-place-end.ensures)) (slice_get_at c.in_ok-left.left.items waits.0 index waits.1 waits.2) there
+]

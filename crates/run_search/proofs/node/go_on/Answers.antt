@@ -1,6 +1,12 @@
-use Rattle.std.proofs.Common.{suc, refl}
-use Rattle.run_search.proofs.Closing.{added_in, closed_first, closed_last, closed_next, come_first, come_next, moved_within}
+use Rattle.std.proofs.Common.{suc, List, refl, subst, sym}
+use Rattle.std.specs.List.{Contains}
+use Rattle.run_search.specs.declared.local_state.LocalState.{LocalState}
+use Rattle.run_search.specs.Nodes.{IsSetClosed}
+use Rattle.run_search.proofs.Closing.{added_in, closed_first, closed_known, closed_last, closed_next, come_first, come_next, moved_within}
 use Rattle.run_search.proofs.node.go_on.Goals as goal
+
+pub returns-then-not-branch-clause-closed : goal.returns-then-not-branch-clause-closed
+returns-then-not-branch-clause-closed c = λ closed. subst (IsSetClosed c.args.spec.now c.args.row.now.items c.args.p) (sym (c.in_ok-put.ensures.known c.if-not-branch.true)) closed
 
 pub loop-new-init : goal.loop-new-init
 loop-new-init c =
@@ -37,3 +43,16 @@ loop-new-preserved c =
 
 pub returns-clause-closed : goal.returns-clause-closed
 returns-clause-closed c = λ closed. closed_last c.args.spec.now c.args.row.now.items c.args.p c.loop-new.set.items c.loop-new.now c.in_default.ensures (c.loop-new.invariant.closed closed)
+
+pub returns-then-not-branch-2-clause-kept : goal.returns-then-not-branch-2-clause-kept
+returns-then-not-branch-2-clause-kept c = λ one there. subst (λ (l : List LocalState). Contains l one) (sym (c.in_ok-put-2.ensures.known c.if-not-branch-2.true)) (c.loop-new.invariant.kept one there)
+
+pub returns-then-not-branch-2-clause-come : goal.returns-then-not-branch-2-clause-come
+returns-then-not-branch-2-clause-come c = λ to there. c.loop-new.invariant.come to (subst (λ (l : List LocalState). Contains l to) (c.in_ok-put-2.ensures.known c.if-not-branch-2.true) there)
+
+pub returns-then-not-branch-2-clause-closed : goal.returns-then-not-branch-2-clause-closed
+returns-then-not-branch-2-clause-closed c = λ closed.
+    let same = c.in_ok-put-2.ensures.known c.if-not-branch-2.true in
+    let there = subst (λ (l : List LocalState). Contains l c.in-Some.new) same c.in_ok-put-2.ensures.there in
+    subst (IsSetClosed c.args.spec.now c.args.row.now.items c.args.p) (sym same)
+    (closed_known c.args.spec.now c.args.row.now.items c.args.p c.loop-new.set.items c.loop-new.now c.in-Some.new there c.in-Some.ensures (c.loop-new.invariant.closed closed))

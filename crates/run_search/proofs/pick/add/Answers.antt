@@ -1,20 +1,29 @@
-use Rattle.std.proofs.Common.{◌≡◌, ◌⊎◌, List, sym, subst}
-use Rattle.std.specs.Prelude.{OnOk}
-use Rattle.std.specs.List.{Contains}
-use Rattle.run_search.specs.declared.local_state.LocalState.{LocalState}
-use Rattle.run_search.specs.declared.pick.Question.{Question}
-use Rattle.run_search.specs.Picks.{HasStandIn, fits}
-use Rattle.run_search.specs.States.{State}
+use Rattle.std.proofs.Common.{List, sym, ap, ◌∙◌, arith}
+use Rattle.std.specs.Prelude.{slice_get}
+use Rattle.std.proofs.lemmas.Option.{get_or_from_slice_get, slice_get_within}
+use Rattle.run_search.specs.States.{State, events_in}
+use Rattle.run_search.proofs.Answering.{same_sym}
+use Rattle.run_search.proofs.Breaking.{pick_there}
+use Rattle.run_search.proofs.Picking.{put_kept, put_there}
 use Rattle.run_search.proofs.pick.add.Goals as goal
 
-pub returns-in-Ends-clause-each : goal.returns-in-Ends-clause-each
-returns-in-Ends-clause-each c =
-    subst (λ (q : Question). OnOk c.add_if_few.result ((one : State) → Contains c.add_if_few.new.picks.items one → Contains c.args.picks.now.items one ⊎ ((one ≡ c.args.pick) × fits q c.args.pick.items))) (sym c.in-Ends.is) c.add_if_few.ensures.each
+pub returns-then-events_in-clause-there : goal.returns-then-events_in-clause-there
+returns-then-events_in-clause-there c =
+    let one = c.in-Some.ensures in
+    let is = ap (λ (l : List State). slice_get l c.in-Some.index) (sym c.as_slice.ensures.value) ∙ one.1 in
+    put_there c.args.spec.now c.args.most c.args.picks.now.items c.in-Some.index c.args.pick (slice_get_within c.args.picks.now.items c.in-Some.index one.0 is)
 
-pub returns-in-Task-clause-each : goal.returns-in-Task-clause-each
-returns-in-Task-clause-each c =
-    subst (λ (q : Question). OnOk c.add_if_fewer.result ((one : State) → Contains c.add_if_fewer.new.picks.items one → Contains c.args.picks.now.items one ⊎ ((one ≡ c.args.pick) × fits q c.args.pick.items))) (sym c.in-Task.is) c.add_if_fewer.ensures.each
+pub returns-then-events_in-clause-kept : goal.returns-then-events_in-clause-kept
+returns-then-events_in-clause-kept c =
+    let one = c.in-Some.ensures in
+    let is = ap (λ (l : List State). slice_get l c.in-Some.index) (sym c.as_slice.ensures.value) ∙ one.1 in
+    let read = ap (λ (s : State). events_in s.items) (c.index.ensures ∙ get_or_from_slice_get c.args.picks.now.items c.in-Some.index one.0 c.index.result.now is) in
+    put_kept c.args.spec.now c.args.most c.args.picks.now.items c.in-Some.index one.0 c.args.pick is (same_sym c.args.spec.now c.args.most one.0.items c.args.pick.items one.2)
+    (omega (arith, read, c.events_in.ensures, c.events_in-2.ensures, c.if-events_in.true))
 
-pub returns-in-Task-clause-kept : goal.returns-in-Task-clause-kept
-returns-in-Task-clause-kept c =
-    subst (λ (q : Question). OnOk c.add_if_fewer.result ((state : List LocalState) → HasStandIn c.args.spec.now q c.args.picks.now.items state → HasStandIn c.args.spec.now q c.add_if_fewer.new.picks.items state)) (sym c.in-Task.is) c.add_if_fewer.ensures.kept
+pub returns-else-events_in-clause-there : goal.returns-else-events_in-clause-there
+returns-else-events_in-clause-there c =
+    let one = c.in-Some.ensures in
+    let is = ap (λ (l : List State). slice_get l c.in-Some.index) (sym c.as_slice.ensures.value) ∙ one.1 in
+    let read = ap (λ (s : State). events_in s.items) (c.index.ensures ∙ get_or_from_slice_get c.args.picks.now.items c.in-Some.index one.0 c.index.result.now is) in
+    (one.0, pick_there c.args.picks.now.items c.in-Some.index one.0 is, one.2, omega (arith, read, c.events_in.ensures, c.events_in-2.ensures, c.if-events_in.false))

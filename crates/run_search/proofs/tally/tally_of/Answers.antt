@@ -15,5 +15,6 @@ loop-index-preserved c =
     let here : slice_get c.args.nodes.now i ≡ Some node = slice_get-get_or c.args.nodes.now i node (let at = c.loop-index.auto.index-end in omega (arith, at, c.loop-index-test.true)) ∙ ap Some (sym c.index-nodes-index.is) in
     record {
       ends = one.ends c.args.nodes.now here c.loop-index.invariant.ends;
-      noted = nodes_noted c.args.spec.now c.args.crashes c.args.nodes.now i node c.loop-index.tally.ends.keys c.take.new.self.ends.keys c.loop-index.tally.witnesses.items c.take.new.self.witnesses.items here one.grown one.noted c.loop-index.invariant.noted;
+      seen = one.seen;
+      noted = nodes_noted c.args.spec.now c.args.crashes c.args.nodes.now i node c.loop-index.listing.tally.ends.keys c.take.new.self.tally.ends.keys c.loop-index.listing.tally.witnesses.items c.take.new.self.tally.witnesses.items here one.grown one.noted c.loop-index.invariant.noted;
     }

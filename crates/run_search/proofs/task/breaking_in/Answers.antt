@@ -2,8 +2,12 @@ use Rattle.std.proofs.Common.{List, None, Some, length, refl, sym, subst, ap, â—
 use Rattle.std.proofs.lemmas.Option.{slice_get-get_or, slice_get_within}
 use Rattle.run_search.specs.Breaking.{IsLeastPick}
 use Rattle.run_search.specs.States.{State}
+use Rattle.run_search.proofs.Allowing.{kept_in}
 use Rattle.run_search.proofs.Breaking.{least_in, none_in}
 use Rattle.run_search.proofs.task.breaking_in.Goals as goal
+
+pub returns-then-keeps_all : goal.returns-then-keeps_all
+returns-then-keeps_all c = kept_in c.args.spec.now c.args.most c.args.node.now (c.if-keeps_all.ensures refl)
 
 pub returns-in_default : goal.returns-in_default
 returns-in_default c =

@@ -5,8 +5,10 @@ use Rattle.run_search.specs.Outcomes.{Ends}
 use Rattle.room_outcomes.specs.Ends.{ends_of}
 use Rattle.room_search.specs.declared.reached.Reached.{Reached}
 use Rattle.room_search.specs.Reaching.{IsFound}
-use Rattle.room_search.specs.Taking.{AreAmong, AreKept, Includes, IsRun}
-use Rattle.room_search.proofs.Noting.{reached_same, room_outcome, room_run, run_grown}
+use Rattle.room_search.specs.Ends.{AreEndsFound}
+use Rattle.room_search.specs.Taking.{AreAmong, AreKept, Includes}
+use Rattle.room_search.proofs.Noting.{reached_same, room_found, room_outcome}
+use Rattle.room_search.proofs.Said.{found_grown}
 use Rattle.room_search.proofs.taking.Taking.note.Goals as goal
 
 pub returns-clause-taking : goal.returns-clause-taking
@@ -32,10 +34,10 @@ returns-clause-taking c =
             (room_outcome spec c.args.crashes schedule room states.items c.requires.settled read)
       ];
       done = λ one there. elim (c.in_ok-mark.ensures.new one there) [
-        | inl before ↦ run_grown spec old new one.items grown (c.requires.taking.done one (subst (λ (l : List (Vec ℕ)). Contains l one) c.in_ok-keep.ensures.done before))
+        | inl before ↦ found_grown spec old new one.items grown (c.requires.taking.done one (subst (λ (l : List (Vec ℕ)). Contains l one) c.in_ok-keep.ensures.done before))
         | inr is ↦
-            subst (IsRun spec new) (sym words_are ∙ is)
-            (room_run spec c.args.crashes schedule room new states.items c.shape-shape.ensures.limits c.requires.settled read found)
+            subst (AreEndsFound spec new) (sym words_are ∙ is)
+            (room_found spec c.args.crashes schedule room new states.items c.shape-shape.ensures.limits c.requires.settled read found)
       ];
     }
 
