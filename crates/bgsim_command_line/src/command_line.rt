@@ -93,7 +93,7 @@ fn plain_command<'a>(alloc: Global) -> Command<'a>
             "Without arguments, bgsim does what `bgsim check` does.\n\nBegin with `bgview lint FILE`: it says in words what is wrong with a file of your own. The other modes of bgview explain what bgsim answers (`bgview --help`).\n\nExit status: 0 if nothing was refused, broken or malformed; 1 if something was refused or broken; 2 for a usage error, a malformed input or an I/O error; 3 if memory ran out.",
         )
         .override_usage(
-            "bgsim [COMMAND]\n       bgview COMMAND, for why, trace, draw, page, transcript, fault, sample, outcomes, lint, grade and live",
+            "bgsim [COMMAND]\n       bgview COMMAND, for why, trace, draw, page, transcript, fault, sample, sum, outcomes, lint, grade and live",
         )
         .no_binary_name(true)
         .disable_help_subcommand(true)

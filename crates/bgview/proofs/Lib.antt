@@ -2,3 +2,4 @@ mod Finding
 mod Live
 mod Reading
 mod Saying
+mod Summing

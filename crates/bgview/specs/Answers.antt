@@ -51,7 +51,7 @@ use Rattle.bgview.specs.declared.request.Searching.{Searching}
 use Rattle.bgview.specs.declared.fault.OptionFault.{OptionFault}
 use Rattle.bgview.specs.declared.fault.OptionFault.TheVariants.{Alone, Both, Goal, Inputs, Keeps, Rooms}
 use Rattle.bgview.specs.declared.fault.ViewFault.{ViewFault}
-use Rattle.bgview.specs.declared.fault.ViewFault.TheVariants.{BadInput, BadOption, Device, Incomplete}
+use Rattle.bgview.specs.declared.fault.ViewFault.TheVariants.{BadInput, BadOption, BadPart, Device, Incomplete}
 
 -- ---- what is shown of a valid input, and how that ends
 
@@ -278,6 +278,7 @@ option_fault _ = None
 -- failed, a beginning is written.
 abbrev pub IsAnswerOf : Type 0 → Type 0 → (Result Outcome AllocError → List ℕ → Type 0) → Option FaultAt → Option OptionFault → Result Outcome ViewFault → List ℕ → Type 0
 IsAnswerOf fit long shown fault bad_option (Ok outcome) output = fit × shown (Ok outcome) output
+IsAnswerOf fit long shown fault bad_option (Err (BadPart bad)) output = ⊥
 IsAnswerOf fit long shown fault bad_option (Err Incomplete) output = fit × shown (Err alloc_error) output
 IsAnswerOf fit long shown fault bad_option (Err (BadInput line text)) output = fit × (fault ≡ Some (line, text)) × (output ≡ [])
 IsAnswerOf fit long shown fault bad_option (Err (BadOption option)) output = (bad_option ≡ Some option) × (output ≡ [])
@@ -322,6 +323,7 @@ Ends fault bad_option (Device Read) = ⊥
 Ends fault bad_option (Device Write) = ⊥
 Ends fault bad_option (Device TooLong) = ⊥
 Ends fault bad_option Incomplete = ⊥
+Ends fault bad_option (BadPart bad) = ⊥
 
 abbrev pub EndsRequest : Request → List ℕ → ViewFault → Type 0
 EndsRequest request input fault = Ends (first_fault request input) (option_fault request) fault

@@ -7,7 +7,7 @@ use Rattle.clap.specs.declared.error.kind.ErrorKind.TheVariants.{OutOfMemory}
 use Rattle.io_text.specs.declared.fault.DeviceFault.TheVariants.{Read}
 use Rattle.room_files.specs.declared.outcome.Outcome.{Outcome}
 use Rattle.bgview.specs.Answers.{IsAnswer}
-use Rattle.bgview_command_line.specs.CommandLine.{bgview_app, codes_among, file_among, mode_among, other_among}
+use Rattle.bgview_command_line.specs.CommandLine.{bgview_app, codes_among, file_among, files_among, mode_among, other_among}
 use Rattle.program_io.specs.Errors.{Errors}
 use Rattle.program_io.specs.Named.{HasAppended, Writes, input_named}
 use Rattle.program_io.specs.Statuses.{words_status}
@@ -17,14 +17,16 @@ use Rattle.bgview.specs.Notes.{AreBothNotes, AreNotesOf}
 use Rattle.bgview.specs.Pages.{IsPageAnswer}
 use Rattle.bgview.specs.Requests.{IsRequestedBy}
 use Rattle.bgview.specs.Said.{IsEndSaid}
+use Rattle.bgview.specs.Sums.{IfAllKnown, IsNotRead, IsSummed, inputs_of}
 use Rattle.bgview.specs.Unread.{IsUnreadIf}
+use Rattle.view_sum.specs.declared.form.SumForm.{SumForm}
 use Rattle.view_page.specs.Faults.{NamedFile}
 use Rattle.bgview.specs.declared.ended.Ended.{Ended}
 use Rattle.bgview.specs.declared.request.OfInput.{OfInput}
 use Rattle.bgview.specs.declared.request.OfInput.TheVariants.{Whole}
 use Rattle.bgview.specs.declared.request.Request.TheVariants.{Page}
 use Rattle.bgview.specs.declared.request.Requested.{Requested}
-use Rattle.bgview.specs.declared.request.Requested.TheVariants.{Faults, Input}
+use Rattle.bgview.specs.declared.request.Requested.TheVariants.{Faults, Input, Sum}
 use Rattle.bgview.specs.declared.fault.OptionFault.TheVariants.{Second}
 use Rattle.bgview.specs.declared.fault.ViewFault.{ViewFault}
 use Rattle.bgview.specs.declared.fault.ViewFault.TheVariants.{BadOption, Device}
@@ -40,13 +42,18 @@ pub record IsAnswered (asked : OfInput) (input : List ℕ) (result : Result Outc
   pub appended : HasAppended writes output
   pub noted : AreNotesOf asked input result before notes
 
--- What the inputs give that the words name, if it is known.
+-- What the inputs give that the words name, if it is known: the first and the second, and all of which there may be many.
 pub record Named : Type 0 where
   pub first : Option (List ℕ)
   pub second : Option (List ℕ)
+  pub all : List (Option (List ℕ))
 
 abbrev pub named_by : Option (List ℕ) → (List ℕ → Option (List ℕ)) → Found → Named
-named_by standard file found = record { first = input_named standard file (file_among found); second = option_and_then file (other_among found) }
+named_by standard file found = record {
+  first = input_named standard file (file_among found);
+  second = option_and_then file (other_among found);
+  all = inputs_of standard file (files_among found);
+}
 
 -- a file was not opened, and nothing is noted or written
 abbrev pub IsNotOpened : Result Outcome ViewFault → List ℕ → Writes → Type 0
@@ -93,9 +100,15 @@ IsUnreadOf found ended = IsUnreadIf (is_read_failed ended.result) (file_among fo
 abbrev pub IsInputDone : Found → Named → OfInput → Ended → List ℕ → Writes → Type 0
 IsInputDone found named asked ended notes writes = ((IsSome (file_among found) × IsNotOpened ended.result notes writes) ⊎ IsReadBy found named asked ended.result notes writes) × IsUnreadOf found ended
 
--- What is requested is done: faults are said, or something is done with the inputs.
+-- Samples are added up, and what is said of one that can't be is noted; unless an input was not read, which is one of those that the words name.
+abbrev pub IsSumDone : SumForm → List (List ℕ) → List (Option (List ℕ)) → Ended → List ℕ → Writes → Type 0
+IsSumDone form names given ended notes writes =
+    (IsNotRead names ended × (notes ≡ []) × HasAppended writes []) ⊎ (IfAllKnown given (λ texts. IsSummed form names texts ended.result notes writes) × (ended.unread ≡ None))
+
+-- What is requested is done: faults are said, samples are added up, or something is done with the inputs.
 abbrev pub IsDone : Requested → Found → Named → Ended → List ℕ → Writes → Type 0
 IsDone Faults found named ended notes writes = ((output : List ℕ) × AreFaultsSaid (codes_among found) ended.result output × HasAppended writes output) × (notes ≡ []) × (ended.unread ≡ None)
+IsDone (Sum form) found named ended notes writes = IsSumDone form (files_among found) named.all ended notes writes
 IsDone (Input asked) found named ended notes writes = IsInputDone found named asked ended notes writes
 
 -- What the words request is done.

@@ -6,4 +6,5 @@ pub mod Notes
 pub mod Pages
 pub mod Requests
 pub mod Said
+pub mod Sums
 pub mod Unread

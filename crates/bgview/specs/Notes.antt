@@ -15,7 +15,7 @@ use Rattle.bgview.specs.declared.request.Request.TheVariants.{Why, Trace, Draw, 
 use Rattle.bgview.specs.declared.fault.OptionFault.{OptionFault}
 use Rattle.bgview.specs.declared.fault.OptionFault.TheVariants.{Alone, Both, Goal, Inputs, Keeps, Rooms, Second}
 use Rattle.bgview.specs.declared.fault.ViewFault.{ViewFault}
-use Rattle.bgview.specs.declared.fault.ViewFault.TheVariants.{BadInput, BadOption, Device, Incomplete}
+use Rattle.bgview.specs.declared.fault.ViewFault.TheVariants.{BadInput, BadOption, BadPart, Device, Incomplete}
 
 -- of a transcript with a malformed line, and of no other: the answer to those has it
 abbrev pub AreNotes : {A : Type 0} → List ℕ → Result A ViewFault → List ℕ → List ℕ → Type 0
@@ -23,6 +23,7 @@ AreNotes input (Ok value) old new = new ≡ old
 AreNotes input (Err (Device fault)) old new = new ≡ old
 AreNotes input (Err Incomplete) old new = new ≡ old
 AreNotes input (Err (BadOption fault)) old new = new ≡ old
+AreNotes input (Err (BadPart bad)) old new = new ≡ old
 AreNotes input (Err (BadInput line fault)) old new = AreTranscriptFaults input new
 
 -- this is said wherever the input was read, unless an allocation failed
@@ -31,6 +32,7 @@ AreSaid said (Ok value) notes = said notes
 AreSaid said (Err (BadInput line fault)) notes = said notes
 AreSaid said (Err Incomplete) notes = said notes
 AreSaid said (Err (BadOption fault)) notes = ⊤
+AreSaid said (Err (BadPart bad)) notes = ⊤
 AreSaid said (Err (Device Write)) notes = said notes
 AreSaid said (Err (Device Read)) notes = ⊤
 AreSaid said (Err (Device TooLong)) notes = ⊤
@@ -84,6 +86,7 @@ AreGoalNotes (Err (BadOption fault)) old new = AreOptionNotes fault old new
 AreGoalNotes (Ok value) old new = ⊤
 AreGoalNotes (Err (Device fault)) old new = ⊤
 AreGoalNotes (Err Incomplete) old new = ⊤
+AreGoalNotes (Err (BadPart bad)) old new = ⊤
 AreGoalNotes (Err (BadInput line fault)) old new = ⊤
 
 -- of a script's faults, or of a goal that is not valid
@@ -92,6 +95,7 @@ AreGradeNotes input (Err (BadOption fault)) old new = AreOptionNotes fault old n
 AreGradeNotes input (Ok value) old new = new ≡ script_faults input
 AreGradeNotes input (Err (Device fault)) old new = AreSaid {A = ⊤} (λ (said : List ℕ). said ≡ script_faults input) (Err (Device fault)) new
 AreGradeNotes input (Err Incomplete) old new = new ≡ script_faults input
+AreGradeNotes input (Err (BadPart bad)) old new = ⊥
 AreGradeNotes input (Err (BadInput line fault)) old new = new ≡ script_faults input
 
 -- what `lint` warns of, which is a part of its answer as JSON

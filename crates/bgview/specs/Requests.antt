@@ -4,6 +4,7 @@ use Rattle.clap.specs.Words.{Row}
 use Rattle.room_sample.specs.declared.sampling.Plan.{Plan}
 use Rattle.run_picture.specs.declared.picture.Style.{Style}
 use Rattle.view_outcomes.specs.Forms.{form_if}
+use Rattle.view_sum.specs.declared.form.SumForm.{SumForm}
 use Rattle.bgview_command_line.specs.CommandLine.{IsNumber, IsNumberIfAny, is_given, json_among, value_among}
 use Rattle.bgview_command_line.specs.declared.words.Mode.{Mode}
 use Rattle.bgview_command_line.specs.declared.words.Mode.TheVariants as modes
@@ -13,7 +14,7 @@ use Rattle.bgview.specs.declared.request.OfInput.TheVariants.{Live, Whole}
 use Rattle.bgview.specs.declared.request.Request.{Request}
 use Rattle.bgview.specs.declared.request.Request.TheVariants.{Why, Trace, Draw, Page, Transcript, Grade, Sample, Outcomes, Lint}
 use Rattle.bgview.specs.declared.request.Requested.{Requested}
-use Rattle.bgview.specs.declared.request.Requested.TheVariants.{Faults, Input}
+use Rattle.bgview.specs.declared.request.Requested.TheVariants.{Faults, Input, Sum}
 use Rattle.bgview.specs.declared.request.Sampling.{Sampling}
 use Rattle.bgview.specs.declared.request.Searching.{Searching}
 
@@ -64,6 +65,12 @@ pub record IsStyleAmong (found : Option (List ℕ × List Row)) (style : Style) 
   pub percent : IsNumber (value_among (codes "scale") found) 100 style.percent
   pub by_turns : style.by_turns ≡ is_given (value_among (codes "turns") found)
 
+-- how a sum is written, as the values of `sum` say
+pub record IsSumFormAmong (found : Option (List ℕ × List Row)) (form : SumForm) : Type 0 where
+  pub top : IsNumberIfAny (value_among (codes "top") found) form.top
+  pub json : form.json ≡ json_among found
+  pub brief : form.brief ≡ is_given (value_among (codes "brief") found)
+
 -- what is requested of an input that is read whole: what the mode is, with what the values of its options say
 abbrev pub IsRequestBy : Mode → Option (List ℕ × List Row) → Request → Type 0
 IsRequestBy modes.Why found (Why explaining) = IsExplainingAmong found explaining
@@ -80,6 +87,7 @@ IsRequestBy _ _ _ = ⊥
 -- what the words request
 abbrev pub IsRequestedBy : Mode → Option (List ℕ × List Row) → Requested → Type 0
 IsRequestedBy modes.Fault found Faults = ⊤
+IsRequestedBy modes.Sum found (Sum form) = IsSumFormAmong found form
 IsRequestedBy modes.Live found (Input Live) = ⊤
 IsRequestedBy mode found (Input (Whole request)) = IsRequestBy mode found request
 IsRequestedBy _ _ _ = ⊥

@@ -15,7 +15,7 @@ use Rattle.bgview.specs.Unread.{unread_note}
 use Rattle.bgview.specs.declared.ended.Ended.{Ended}
 use Rattle.bgview.specs.declared.fault.OptionFault.TheVariants.{Alone, Both, Goal, Inputs, Keeps, Rooms, Second}
 use Rattle.bgview.specs.declared.fault.ViewFault.{ViewFault}
-use Rattle.bgview.specs.declared.fault.ViewFault.TheVariants.{BadInput, BadOption, Device, Incomplete}
+use Rattle.bgview.specs.declared.fault.ViewFault.TheVariants.{BadInput, BadOption, BadPart, Device, Incomplete}
 use Rattle.bgview.specs.declared.unread.Unread.{Unread}
 
 -- where in a line of a task of one's own its fault is, and the fault
@@ -29,6 +29,10 @@ line_place_text fault = (decimal fault.line ++ codes " of --keeps, byte ") ++ li
 abbrev pub line_fault_text : LineFault → List ℕ
 line_fault_text fault = codes "line " ++ line_place_text fault
 
+-- at which line a file can't be added up with the others
+abbrev pub part_words : ℕ → List ℕ
+part_words line = codes "line " ++ (decimal line ++ codes ": no part of the sum")
+
 abbrev pub fault_words : ViewFault → List ℕ
 fault_words (Device Read) = codes "read failed"
 fault_words (Device Write) = codes "write failed"
@@ -36,6 +40,7 @@ fault_words (Device TooLong) = codes "input too long"
 fault_words (Device Memory) = codes "out of memory"
 fault_words Incomplete = codes "out of memory"
 fault_words (BadInput line fault) = place_words line (text_code fault)
+fault_words (BadPart bad) = part_words bad.line
 fault_words (BadOption (Goal fault)) = fault_text fault
 fault_words (BadOption (Inputs fault)) = values_fault_text fault
 fault_words (BadOption (Keeps fault)) = line_fault_text fault

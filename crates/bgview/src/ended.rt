@@ -1,10 +1,10 @@
 //! How the program ends that did what the words ask for.
-ghost use Rattle.std.specs.Prelude.{◌≡◌, Err, Some};
+ghost use Rattle.std.specs.Prelude.{◌≡◌, Err, None, Some};
 ghost use Rattle.std.specs.Option.{option_map};
 ghost use Rattle.bgview.specs.Ends.{ending_status, is_read_failed};
 ghost use Rattle.bgview.specs.Unread.{IsUnreadIf, path_of};
 ghost use Rattle.bgview.specs.declared.fault.ViewFault.TheVariants.{Device};
-ghost use Rattle.io_text.specs.declared.fault.DeviceFault.TheVariants.{Read};
+ghost use Rattle.io_text.specs.declared.fault.DeviceFault.TheVariants.{Memory, Read};
 
 use crate::fault::ViewFault;
 use crate::unread::{Unread, unread_file};
@@ -55,6 +55,17 @@ impl<'a> Ended<'a> {
         Ended {
             result: Err(ViewFault::Device(DeviceFault::Read)),
             unread: Some(unread),
+        }
+    }
+
+    /// No answer, since an allocation failed.
+    pub fn out_of_memory() -> Ended<'a>
+        ensures result { result.result ≡ Err (Device Memory) }
+        ensures unread { path_of result.unread ≡ None }
+    {
+        Ended {
+            result: Err(ViewFault::Device(DeviceFault::Memory)),
+            unread: None,
         }
     }
 

@@ -1,5 +1,5 @@
 //! Reads inputs, and writes the answers to them.
-ghost use Rattle.std.specs.Prelude.{◌≡◌, ◌+◌, ◌≤◌, ◌||◌, ◌∷◌, [], List, ℕ, false, length, map, IfSome};
+ghost use Rattle.std.specs.Prelude.{◌≡◌, ◌+◌, ◌≤◌, ◌||◌, ◌∷◌, [], All, List, ℕ, false, length, map, IfOk, IfSome};
 ghost use Rattle.std.specs.Io.KnownBytes.{Appends};
 ghost use Rattle.io_text.specs.Devices.{HasRead, HasWritten, failed_writes};
 ghost use Rattle.io_text.specs.Reading.{most_bytes};
@@ -8,20 +8,23 @@ ghost use Rattle.bgview.specs.Ends.{is_read_failed, is_write_failed};
 ghost use Rattle.bgview.specs.Faults.{AreFaultsSaid};
 ghost use Rattle.bgview.specs.Notes.{AreBothNotes, AreNotesOn};
 ghost use Rattle.bgview.specs.Pages.{IsPageAnswer};
+ghost use Rattle.bgview.specs.Sums.{IsSummed};
+ghost use Rattle.view_sum.specs.Words.{refusal_text};
 
 use crate::fault::{ViewFault, written};
 use crate::request::Request;
 use crate::showing::show;
 use crate::system::{Aside, System};
 use fault_words::say_faults;
-use io_text::{Device, Text, read_input, write_output};
+use io_text::{Device, DeviceFault, Text, read_input, write_output};
 use live_script::serve;
 use room_files::Outcome;
 use run_search::Progress;
-use std::alloc::Global;
+use std::alloc::{AllocError, Global};
 use std::io::{Read, Write};
 use std::thread::Threads;
 use view_page::{faults_of_both, page_of_both};
+use view_sum::{BadPart, SumFault, SumForm, sum_samples, write_refusal};
 
 /// Answers the input that the reader gives as is requested. The whole input is read and judged before anything is written. What is said of
 /// its faults, or of a goal that is not valid, becomes the notes of `aside`.
@@ -91,6 +94,13 @@ pub fn live_io<R: Read, W: Write>(
 {
     let ending = serve(alloc, reader, writer)?;
     written(ending)
+}
+
+/// Samples that were read, and the names that the words give them.
+#[derive(Clone, Copy)]
+pub struct Given<'a> {
+    pub names: &'a [&'a str],
+    pub texts: &'a [&'a [u8]],
 }
 
 /// A file that is read, by the name that the words give it.
@@ -188,4 +198,44 @@ pub fn fault_io<W: Write>(
     let answer = say_faults(alloc, codes)?;
     write_output(writer, answer.output.as_bytes())?;
     Ok(answer.outcome)
+}
+
+/// Adds up samples, which are given with their names, and writes the sum in this form. What is said of one that can't be added up becomes `notes`.
+///
+/// # Errors
+///
+/// A writer that failed, an allocation that failed, or the first line at which a file can't be added up with the others.
+pub fn sum_io<W: Write>(
+    alloc: Global,
+    given: &Given<'_>,
+    form: &SumForm,
+    writer: &mut Device<W>,
+    notes: &mut Text,
+) -> Result<Outcome, ViewFault>
+    requires fits { All (λ text. length text.now ≤ most_bytes) given.now.texts.now }
+    requires writer { writer.old.failed ≡ false }
+    requires notes { notes.old ≡ [] }
+    ensures { IsSummed form.now (map (λ name. name.now) given.now.names.now) (map (λ text. text.now) given.now.texts.now) result notes.new
+        (record { before = W.contents writer.old.inner; after = W.contents writer.new.inner }) }
+{
+    match sum_samples(alloc, given.texts, form) {
+        Ok(answer) => {
+            write_output(writer, answer.output.as_bytes())?;
+            Ok(answer.outcome)
+        }
+        Err(SumFault::Memory) => Err(ViewFault::Device(DeviceFault::Memory)),
+        Err(SumFault::Bad(bad)) => {
+            *notes = refusal_of(alloc, given.names, &bad)?;
+            Err(ViewFault::BadPart(bad))
+        }
+    }
+}
+
+/// What is said of a file that can't be added up with the others.
+fn refusal_of(alloc: Global, names: &[&str], bad: &BadPart) -> Result<Text, AllocError>
+    ensures { IfOk result (λ text. text ≡ refusal_text (map (λ name. name.now) names.now) bad.now) }
+{
+    let mut text = Text::new(alloc);
+    write_refusal(&mut text, names, bad)?;
+    Ok(text)
 }

@@ -1,6 +1,6 @@
 //! How the program ends early.
 ghost use Rattle.std.specs.Prelude.{◌≡◌};
-ghost use Rattle.bgview.specs.Ends.{fault_status, input_fault, written};
+ghost use Rattle.bgview.specs.Ends.{fault_status, input_fault, sum_fault, written};
 ghost use Rattle.bgview.specs.declared.fault.ViewFault.TheVariants.{Device};
 ghost use Rattle.io_text.specs.declared.fault.DeviceFault.TheVariants.{Memory};
 
@@ -10,6 +10,7 @@ use room_files::{InputFault, Outcome, TextFault};
 use std::alloc::AllocError;
 use view_grade::GoalFault;
 use view_outcomes::ValuesFault;
+use view_sum::{BadPart, SumFault};
 
 /// Why an option's text says nothing.
 #[derive(Clone, Copy, Debug)]
@@ -41,6 +42,8 @@ pub enum ViewFault {
     BadInput { line: u64, fault: TextFault },
     /// The text of an option has this fault.
     BadOption(OptionFault),
+    /// A sample can't be added up with the others.
+    BadPart(BadPart),
 }
 
 impl ViewFault {
@@ -78,6 +81,17 @@ impl From<AllocError> for ViewFault {
 
     fn from(_: AllocError) -> ViewFault {
         ViewFault::Device(DeviceFault::Memory)
+    }
+}
+
+impl From<SumFault> for ViewFault {
+    ghost from_gives = { λ sum fault. fault ≡ sum_fault sum };
+
+    fn from(fault: SumFault) -> ViewFault {
+        match fault {
+            SumFault::Memory => ViewFault::Device(DeviceFault::Memory),
+            SumFault::Bad(bad) => ViewFault::BadPart(bad),
+        }
     }
 }
 

@@ -2,12 +2,14 @@
 //! input's faults goes to standard error.
 #![tactic(auto)]
 
-ghost use Rattle.std.specs.Prelude.{◌≡◌, ◌≤◌, IfSome, List, [], ℕ, false, map, option_and_then};
+ghost use Rattle.std.specs.Prelude.{◌≡◌, ◌≤◌, ◌∷◌, All, IfErr, IfOk, IfSome, List, [], ℕ, false, length, map, option_and_then};
 ghost use Rattle.std.specs.Io.KnownBytes.{Appends};
 ghost use Rattle.clap.specs.Words.{subcommand_rows_of};
-ghost use Rattle.bgview_command_line.specs.CommandLine.{codes_among, other_among};
-ghost use Rattle.bgview.specs.Endings.{IsAnswered, IsEnding, IsInputDone, IsReadBy, IsStatusFor, IsUnreadOf, is_kept_page, named_by};
+ghost use Rattle.bgview_command_line.specs.CommandLine.{codes_among, files_among, other_among};
+ghost use Rattle.io_text.specs.Reading.{most_bytes};
+ghost use Rattle.bgview.specs.Endings.{IsAnswered, IsEnding, IsInputDone, IsReadBy, IsStatusFor, IsSumDone, IsUnreadOf, is_kept_page, named_by};
 ghost use Rattle.bgview.specs.Faults.{AreFaultsSaid};
+ghost use Rattle.bgview.specs.Sums.{IfAllKnown, IsNotRead, input_of, inputs_of};
 
 mod ended;
 mod engine;
@@ -22,21 +24,22 @@ mod unread;
 use bgview_command_line::{line_in, read_words};
 use clap::ArgMatches;
 use ended::Ended;
-use engine::{NamedReader, answer_io, fault_io, live_io, pages_io};
+use engine::{Given, NamedReader, answer_io, fault_io, live_io, pages_io, sum_io};
 use fault::{OptionFault, ViewFault};
-use io_text::{Device, Text};
+use io_text::{Device, Text, read_input};
 use program_io::{Inputs, unread_status, words, words_status};
 use progress::{Counter, Parts, has_terminal};
 use request::{OfInput, Request, Requested, requested_in};
 use room_files::Outcome;
 use run_search::Progress;
 use said::say_end;
-use std::alloc::Global;
+use std::alloc::{AllocError, Global};
 use std::convert::AsStr;
 use std::io::{Read, Write};
 use std::process::ExitCode;
 use std::thread::Threads;
 use system::{Aside, System};
+use view_sum::SumForm;
 
 fn main(rt: HostRuntime) -> ExitCode {
     let mut errors = Device::new(rt.stderr());
@@ -108,6 +111,7 @@ fn end<'a, H: Threads + Sync, I: Inputs, W: Write, P: Progress>(
             result: say_faults(system.alloc, matches, writer),
             unread: None,
         },
+        Requested::Sum(form) => sum_files(system, writer, matches, &form, aside),
         Requested::Input(asked) => with_file(system, writer, matches, &asked, aside),
     }
 }
@@ -151,7 +155,11 @@ fn with_other<'a, H: Threads + Sync, I: Inputs, R: Read + Drop, W: Write, P: Pro
     requires writer { writer.old.failed ≡ false }
     requires notes { aside.old.notes ≡ [] }
     ensures read { IsReadBy (subcommand_rows_of matches.now)
-        (record { first = R.remaining input; second = option_and_then (I.file_bytes system.now.inputs.now) (other_among (subcommand_rows_of matches.now)) }) asked.now result.result aside.new.notes
+        (record {
+          first = R.remaining input;
+          second = option_and_then (I.file_bytes system.now.inputs.now) (other_among (subcommand_rows_of matches.now));
+          all = inputs_of (I.standard_bytes system.now.inputs.now) (I.file_bytes system.now.inputs.now) (files_among (subcommand_rows_of matches.now));
+        }) asked.now result.result aside.new.notes
         (record { before = W.contents writer.old.inner; after = W.contents writer.new.inner }) }
     ensures unread { IsUnreadOf (subcommand_rows_of matches.now) result }
 {
@@ -194,6 +202,118 @@ fn is_kept_page(asked: &OfInput<'_>) -> bool
     match asked {
         OfInput::Whole(Request::Page { keeps }) => keeps.is_some(),
         _ => false,
+    }
+}
+
+/// Adds up the samples that the words name. What is said of one that can't be added up becomes the notes of `aside`.
+fn sum_files<'a, H: Threads + Sync, I: Inputs, W: Write, P: Progress>(
+    system: &System<'_, H, I>,
+    writer: &mut Device<W>,
+    matches: &ArgMatches<'a>,
+    form: &SumForm,
+    aside: &mut Aside<P>,
+) -> Ended<'a>
+    requires writer { writer.old.failed ≡ false }
+    requires notes { aside.old.notes ≡ [] }
+    ensures { IsSumDone form.now (files_among (subcommand_rows_of matches.now))
+        (inputs_of (I.standard_bytes system.now.inputs.now) (I.file_bytes system.now.inputs.now) (files_among (subcommand_rows_of matches.now))) result aside.new.notes
+        (record { before = W.contents writer.old.inner; after = W.contents writer.new.inner }) }
+{
+    let Some((_, inner)) = matches.subcommand() else {
+        return sum_named(system, writer, &[], form, aside);
+    };
+    let Some(names) = inner.get_strs("FILE") else {
+        return sum_named(system, writer, &[], form, aside);
+    };
+    sum_named(system, writer, names, form, aside)
+}
+
+/// Adds up the samples of these names.
+fn sum_named<'a, H: Threads + Sync, I: Inputs, W: Write, P: Progress>(
+    system: &System<'_, H, I>,
+    writer: &mut Device<W>,
+    names: &[&'a str],
+    form: &SumForm,
+    aside: &mut Aside<P>,
+) -> Ended<'a>
+    requires writer { writer.old.failed ≡ false }
+    requires notes { aside.old.notes ≡ [] }
+    ensures { IsSumDone form.now (map (λ name. name.now) names.now)
+        (inputs_of (I.standard_bytes system.now.inputs.now) (I.file_bytes system.now.inputs.now) (map (λ name. name.now) names.now)) result aside.new.notes
+        (record { before = W.contents writer.old.inner; after = W.contents writer.new.inner }) }
+{
+    let read = match read_named(system, names) {
+        Ok(read) => read,
+        Err(ended) => return ended,
+    };
+    let texts = match lent(system.alloc, read.as_slice()) {
+        Ok(texts) => texts,
+        Err(_) => return Ended::out_of_memory(),
+    };
+    let given = Given {
+        names,
+        texts: texts.as_slice(),
+    };
+    let result = sum_io(system.alloc, &given, form, writer, &mut aside.notes);
+    Ended {
+        result,
+        unread: None,
+    }
+}
+
+/// The samples of these names; or how the program ends, if one is not read.
+fn read_named<'a, H, I: Inputs>(
+    system: &System<'_, H, I>,
+    names: &[&'a str],
+) -> Result<Vec<Vec<u8>>, Ended<'a>>
+    ensures read { IfOk result (λ read. IfAllKnown (inputs_of (I.standard_bytes system.now.inputs.now) (I.file_bytes system.now.inputs.now) (map (λ name. name.now) names.now))
+        (λ texts. map (λ text. text.items) read.items ≡ texts)) }
+    ensures fits { IfOk result (λ read. All (λ text. length text.items ≤ most_bytes) read.items) }
+    ensures err { IfErr result (IsNotRead (map (λ name. name.now) names.now)) }
+{
+    let mut read = Vec::new(system.alloc);
+    for name in names {
+        let text = match read_one(system, *name) {
+            Ok(text) => text,
+            Err(ended) => return Err(ended),
+        };
+        if read.push(text).is_err() {
+            return Err(Ended::out_of_memory());
+        }
+    }
+    Ok(read)
+}
+
+/// The bytes of these texts.
+fn lent<'a>(alloc: Global, texts: &'a [Vec<u8>]) -> Result<Vec<&'a [u8]>, AllocError>
+    ensures { IfOk result (λ lent. map (λ text. text.now) lent.items ≡ map (λ text. text.items) texts.now) }
+{
+    let mut lent = Vec::new(alloc);
+    for text in texts {
+        lent.push(text.as_slice())?;
+    }
+    Ok(lent)
+}
+
+/// The sample of this name, which is standard input if it is `-`; or how the program ends, if it is not read.
+fn read_one<'a, H, I: Inputs>(
+    system: &System<'_, H, I>,
+    name: &'a str,
+) -> Result<Vec<u8>, Ended<'a>>
+    ensures read { IfOk result (λ text. IfSome (input_of (I.standard_bytes system.now.inputs.now) (I.file_bytes system.now.inputs.now) name.now) (λ bytes. text.items ≡ bytes)) }
+    ensures fits { IfOk result (λ text. length text.items ≤ most_bytes) }
+    ensures err { IfErr result (IsNotRead (name.now ∷ [])) }
+{
+    if name == "-" {
+        let read = read_input(system.alloc, &mut Device::new(system.inputs.standard()));
+        return read.map_err(|fault| Ended::of(system.inputs, Err(fault.into()), None));
+    }
+    match system.inputs.open(name) {
+        Ok(input) => {
+            let read = read_input(system.alloc, &mut Device::new(input));
+            read.map_err(|fault| Ended::of(system.inputs, Err(fault.into()), Some(name)))
+        }
+        Err(error) => Err(Ended::not_opened(name, &error)),
     }
 }
 

@@ -1,7 +1,7 @@
 //! What the words of the command line request.
 ghost use Rattle.clap.specs.Words.{subcommand_rows_of};
 ghost use Rattle.bgview_command_line.specs.CommandLine.{mode_among};
-ghost use Rattle.bgview.specs.Requests.{IsExplainingAmong, IsGradingAmong, IsPlanAmong, IsRequestedBy, IsSamplingAmong, IsSearchAmong, IsStyleAmong};
+ghost use Rattle.bgview.specs.Requests.{IsExplainingAmong, IsGradingAmong, IsPlanAmong, IsRequestedBy, IsSamplingAmong, IsSearchAmong, IsStyleAmong, IsSumFormAmong};
 
 use bgview_command_line::{
     Mode, is_given, line_in, number_among, number_if_any, text_among, text_if_any,
@@ -10,6 +10,7 @@ use clap::ArgMatches;
 use room_sample::Plan;
 use run_picture::Style;
 use view_outcomes::Form;
+use view_sum::SumForm;
 
 /// How a transcript is explained.
 #[derive(Clone, Copy)]
@@ -100,6 +101,8 @@ pub enum OfInput<'a> {
 pub enum Requested<'a> {
     /// Faults in words, by their numbers.
     Faults,
+    /// The sum of samples, in this form.
+    Sum(SumForm),
     /// Something of an input.
     Input(OfInput<'a>),
 }
@@ -111,6 +114,7 @@ pub fn requested_in<'a>(matches: &ArgMatches<'a>) -> Requested<'a>
     let json = is_given(matches, "json");
     let request = match line_in(matches).command {
         Mode::Fault => return Requested::Faults,
+        Mode::Sum => return Requested::Sum(sum_form_in(matches)),
         Mode::Live => return Requested::Input(OfInput::Live),
         Mode::Why => Request::Why(explaining_in(matches)),
         Mode::Trace => Request::Trace { json },
@@ -125,6 +129,17 @@ pub fn requested_in<'a>(matches: &ArgMatches<'a>) -> Requested<'a>
         Mode::Lint => Request::Lint { json },
     };
     Requested::Input(OfInput::Whole(request))
+}
+
+/// How a sum is written, as the words say.
+fn sum_form_in(matches: &ArgMatches<'_>) -> SumForm
+    ensures { IsSumFormAmong (subcommand_rows_of matches.now) result }
+{
+    SumForm {
+        top: number_if_any(matches, "top"),
+        json: is_given(matches, "json"),
+        brief: is_given(matches, "brief"),
+    }
 }
 
 /// How a transcript is explained, as the words say.

@@ -4,7 +4,7 @@ ghost use Rattle.std.specs.Io.KnownBytes.{Appends};
 ghost use Rattle.program_io.specs.Errors.{fault_line};
 ghost use Rattle.view_grade.specs.Grades.{fault_text};
 ghost use Rattle.view_outcomes.specs.Values.{values_fault_text};
-ghost use Rattle.bgview.specs.Said.{IsEndSaid, fault_words, line_fault_text, line_place_text, line_reason_text, refused_note, unread_text};
+ghost use Rattle.bgview.specs.Said.{IsEndSaid, fault_words, line_fault_text, line_place_text, line_reason_text, part_words, refused_note, unread_text};
 ghost use Rattle.bgview.specs.Unread.{unread_note};
 
 use crate::ended::Ended;
@@ -74,6 +74,7 @@ fn say_words<E: Write>(errors: &mut Device<E>, fault: ViewFault) -> Result<(), D
             write_output(errors, b"out of memory")
         }
         ViewFault::BadInput { line, fault } => say_place(errors, line, fault.code()),
+        ViewFault::BadPart(bad) => say_part(errors, bad.line),
         ViewFault::BadOption(OptionFault::Goal(fault)) => say_goal_fault(errors, fault),
         ViewFault::BadOption(OptionFault::Inputs(fault)) => say_values_fault(errors, fault),
         ViewFault::BadOption(OptionFault::Keeps(fault)) => say_line_fault(errors, &fault),
@@ -95,6 +96,15 @@ fn say_words<E: Write>(errors: &mut Device<E>, fault: ViewFault) -> Result<(), D
             )
         }
     }
+}
+
+/// Says at which line a file can't be added up with the others.
+fn say_part<E: Write>(errors: &mut Device<E>, line: u64) -> Result<(), DeviceFault>
+    ensures said { OnOk result (Appends (E.contents errors.old.inner) (E.contents errors.new.inner) (part_words line)) }
+    ensures failed { errors.new.failed ≡ (errors.old.failed || is_err result) }
+{
+    write_output(errors, b"line ")?;
+    say_number(errors, line, b": no part of the sum")
 }
 
 fn say_goal_fault<E: Write>(errors: &mut Device<E>, fault: GoalFault) -> Result<(), DeviceFault>

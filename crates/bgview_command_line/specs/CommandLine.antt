@@ -8,7 +8,7 @@ use Rattle.clap.specs.Words.{App, Row, Rule, Shape, all_of, first_of, new_app, n
 use Rattle.clap.specs.declared.builder.action.ArgAction.TheVariants.{SetTrue}
 use Rattle.clap.specs.declared.builder.value_parser.ValueParser.TheVariants.{Signed}
 use Rattle.bgview_command_line.specs.declared.words.Mode.{Mode}
-use Rattle.bgview_command_line.specs.declared.words.Mode.TheVariants.{Why, Trace, Draw, Page, Transcript, Fault, Grade, Sample, Outcomes, Lint, Live}
+use Rattle.bgview_command_line.specs.declared.words.Mode.TheVariants.{Why, Trace, Draw, Page, Transcript, Fault, Grade, Sample, Sum, Outcomes, Lint, Live}
 
 -- the subcommand of a word, which takes a file
 abbrev pub file_app : List ℕ → App
@@ -135,13 +135,17 @@ commands_rule = number_rule (codes "commands") 0 1000000
 abbrev pub grade_app : App
 grade_app = with_rule (with_rule (with_rule (file_app (codes "grade")) goal_rule) commands_rule) keeps_rule
 
--- one number at least
-abbrev pub code_rule : Rule
-code_rule = record (new_rule (codes "CODE")) { required = true; range = Some (record { start_inclusive = 1; end_inclusive = usize_max }) }
+-- one value of this name at least
+abbrev pub many_rule : List ℕ → Rule
+many_rule name = record (new_rule name) { required = true; range = Some (record { start_inclusive = 1; end_inclusive = usize_max }) }
 
 -- the subcommand `fault`, which takes numbers
 abbrev pub fault_app : App
-fault_app = with_rule (new_app (codes "fault")) code_rule
+fault_app = with_rule (new_app (codes "fault")) (many_rule (codes "CODE"))
+
+-- the subcommand `sum`, which takes files, a number and two flags
+abbrev pub sum_app : App
+sum_app = with_rule (with_rule (with_rule (with_rule (new_app (codes "sum")) (many_rule (codes "FILE"))) top_rule) json_rule) brief_rule
 
 abbrev pub plain_shape : Shape
 plain_shape = record (new_app (codes "bgview")).top { no_binary_name = true; disable_help_subcommand = true; has_version = true; subcommand_required = true }
@@ -152,13 +156,13 @@ plain_app = record { top = plain_shape; subs = [] }
 abbrev pub bgview_app : App
 bgview_app =
     let showing = with_subcommand (with_subcommand (with_subcommand (with_subcommand plain_app why_app.top) (telling_app (codes "trace")).top) draw_app.top) page_app.top in
-    let finding = with_subcommand (with_subcommand (with_subcommand (with_subcommand showing (file_app (codes "transcript")).top) fault_app.top) sample_app.top) outcomes_app.top in
+    let finding = with_subcommand (with_subcommand (with_subcommand (with_subcommand (with_subcommand showing (file_app (codes "transcript")).top) fault_app.top) sample_app.top) sum_app.top) outcomes_app.top in
     with_subcommand (with_subcommand (with_subcommand finding (telling_app (codes "lint")).top) grade_app.top) (file_app (codes "live")).top
 
 -- the mode of a word, which is that of a subcommand
 abbrev pub mode_of : List ℕ → Mode
 mode_of word =
-    if bytes_eq word (codes "trace") then Trace else if bytes_eq word (codes "draw") then Draw else if bytes_eq word (codes "page") then Page else if bytes_eq word (codes "transcript") then Transcript else if bytes_eq word (codes "fault") then Fault else if bytes_eq word (codes "sample") then Sample else if bytes_eq word (codes "outcomes") then Outcomes else if bytes_eq word (codes "lint") then Lint else if bytes_eq word (codes "grade") then Grade else if bytes_eq word (codes "live") then Live else Why
+    if bytes_eq word (codes "trace") then Trace else if bytes_eq word (codes "draw") then Draw else if bytes_eq word (codes "page") then Page else if bytes_eq word (codes "transcript") then Transcript else if bytes_eq word (codes "fault") then Fault else if bytes_eq word (codes "sample") then Sample else if bytes_eq word (codes "sum") then Sum else if bytes_eq word (codes "outcomes") then Outcomes else if bytes_eq word (codes "lint") then Lint else if bytes_eq word (codes "grade") then Grade else if bytes_eq word (codes "live") then Live else Why
 
 -- the mode of the subcommand that was found
 abbrev pub mode_among : Option (List ℕ × List Row) → Mode
@@ -178,6 +182,10 @@ other_among found = value_among (codes "OTHER") found
 -- the numbers among the values of a subcommand
 abbrev pub codes_among : Option (List ℕ × List Row) → List (List ℕ)
 codes_among found = unwrap_or (option_and_then (λ sub. all_of (codes "CODE") sub.1) found) []
+
+-- the files that a subcommand takes, if it takes several
+abbrev pub files_among : Option (List ℕ × List Row) → List (List ℕ)
+files_among found = unwrap_or (option_and_then (λ sub. all_of (codes "FILE") sub.1) found) []
 
 -- The text is a numeral, which may have a sign, of this value. `clap` takes no other text for an option with a number: `-0` is 0.
 pub record IsValueOf (text : List ℕ) (value : ℕ) : Type 0 where

@@ -2,9 +2,9 @@
 ghost use Rattle.std.specs.Prelude.{◌≡◌, IfOk, IsOkAnd, codes, false, map};
 ghost use Rattle.clap.specs.Kinds.{FailsBy};
 ghost use Rattle.clap.specs.declared.builder.command.Command.TheViews.{out-Command};
-ghost use Rattle.clap.specs.Words.{app_of, fault_of, subcommand_of, subcommand_rows_of, with_subcommand};
+ghost use Rattle.clap.specs.Words.{app_of, fault_of, new_app, subcommand_of, subcommand_rows_of, with_rule, with_subcommand};
 ghost use Rattle.clap.specs.Walk.{rule_of};
-ghost use Rattle.bgview_command_line.specs.CommandLine.{bgview_app, brief_rule, choosing_app, commands_rule, crashes_rule, draw_app, drawing_app, fault_app, file_app, from_rule, goal_rule, grade_app, group_rule, inputs_rule, json_rule, keeps_rule, listing_app, outcome_rule, outcomes_app, page_app, picking_app, plain_app, sample_app, scale_rule, schedules_rule, searching_app, rooms_rule, seed_rule, nodes_rule, stopped_rule, task_rule, telling_app, top_rule, turns_rule, why_app, workers_rule};
+ghost use Rattle.bgview_command_line.specs.CommandLine.{bgview_app, brief_rule, choosing_app, commands_rule, crashes_rule, draw_app, drawing_app, fault_app, file_app, from_rule, goal_rule, grade_app, group_rule, inputs_rule, json_rule, keeps_rule, listing_app, outcome_rule, many_rule, outcomes_app, page_app, picking_app, plain_app, sample_app, scale_rule, schedules_rule, searching_app, rooms_rule, seed_rule, nodes_rule, stopped_rule, sum_app, task_rule, telling_app, top_rule, turns_rule, why_app, workers_rule};
 
 use clap::{Arg, ArgAction, ArgMatches, Command, Error, value_parser};
 use std::alloc::{AllocError, Global};
@@ -532,14 +532,53 @@ fn fault_command<'a>(alloc: Global) -> Result<Command<'a>, AllocError>
     ensures app { IfOk result (λ command. app_of command ≡ fault_app) }
     ensures local { IfOk result (λ command. (out-Command command).has_globals ≡ false) }
 {
-    let code = Arg::new(alloc, "CODE")
-        .help("The number of a fault")
-        .required(true)
-        .num_args(1..);
     Command::new(alloc, "fault")
         .about("Says in words what the numbers mean by which reports name faults")
         .override_usage("bgview fault CODE..")
-        .arg(code)
+        .arg(many_values(alloc, "CODE", "The number of a fault"))
+}
+
+/// One value of this name at least.
+fn many_values<'a>(alloc: Global, name: &'a str, help: &'a str) -> Arg<'a>
+    ensures rule { rule_of result ≡ many_rule name.entry.now }
+    ensures local { result.global ≡ false }
+{
+    Arg::new(alloc, name)
+        .help(help)
+        .required(true)
+        .num_args(1..)
+}
+
+/// The subcommand `sum`, which takes files, a number and two flags.
+fn sum_command<'a>(alloc: Global) -> Result<Command<'a>, AllocError>
+    ensures app { IfOk result (λ command. app_of command ≡ sum_app) }
+    ensures local { IfOk result (λ command. (out-Command command).has_globals ≡ false) }
+{
+    let sum = summing_command(alloc)?;
+    let with_top = sum.arg(top_option(
+        alloc,
+        "Shows only the K most frequent outcomes of each room; without it, all",
+    ))?;
+    let with_json = with_top.arg(json_option(alloc))?;
+    with_json.arg(brief_option(alloc, "Leaves out the schedules in JSON"))
+}
+
+/// The subcommand `sum` with its files alone.
+fn summing_command<'a>(alloc: Global) -> Result<Command<'a>, AllocError>
+    ensures app { IfOk result (λ command. app_of command ≡ with_rule (new_app (codes "sum")) (many_rule (codes "FILE"))) }
+    ensures local { IfOk result (λ command. (out-Command command).has_globals ≡ false) }
+{
+    let files = many_values(
+        alloc,
+        "FILE",
+        "What `bgview sample --json` wrote of one part of the schedules; - is standard input",
+    );
+    Command::new(alloc, "sum")
+        .about(
+            "Adds up samples of the same rooms by schedules that follow each other, as `bgview sample --json --from K` wrote them",
+        )
+        .override_usage("bgview sum [--top K] [--json] [--brief] FILE..")
+        .arg(files)
 }
 
 /// The program's command without its subcommands.
@@ -579,7 +618,8 @@ fn command<'a>(alloc: Global) -> Result<Command<'a>, AllocError>
     let with_transcript = with_subcommand(with_page, transcript_command(alloc))?;
     let with_fault = with_subcommand(with_transcript, fault_command(alloc))?;
     let with_sample = with_subcommand(with_fault, sample_command(alloc))?;
-    let with_outcomes = with_subcommand(with_sample, outcomes_command(alloc))?;
+    let with_sum = with_subcommand(with_sample, sum_command(alloc))?;
+    let with_outcomes = with_subcommand(with_sum, outcomes_command(alloc))?;
     let with_lint = with_subcommand(with_outcomes, lint_command(alloc))?;
     let with_grade = with_subcommand(with_lint, grade_command(alloc))?;
     with_subcommand(with_grade, live_command(alloc))

@@ -19,6 +19,8 @@ pub enum Mode {
     Fault,
     /// Runs rooms by random schedules.
     Sample,
+    /// Adds up samples that were taken in parts.
+    Sum,
     /// Searches all runs of rooms.
     Outcomes,
     /// Explains all faults of a file.
@@ -46,6 +48,8 @@ impl Mode {
             Mode::Fault
         } else if word == "sample" {
             Mode::Sample
+        } else if word == "sum" {
+            Mode::Sum
         } else if word == "outcomes" {
             Mode::Outcomes
         } else if word == "lint" {

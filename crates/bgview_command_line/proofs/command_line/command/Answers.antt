@@ -10,7 +10,8 @@ returns c =
     let transcript_is = grown _ _ _ c.transcript_command.result _ page_is c.transcript_command.ensures.app c.transcript_command.ensures.local c.in_ok-with_transcript.ensures in
     let fault_is = grown _ _ _ c.fault_command.result _ transcript_is c.fault_command.ensures.app c.fault_command.ensures.local c.in_ok-with_fault.ensures in
     let sample_is = grown _ _ _ c.sample_command.result _ fault_is c.sample_command.ensures.app c.sample_command.ensures.local c.in_ok-with_sample.ensures in
-    let outcomes_is = grown _ _ _ c.outcomes_command.result _ sample_is c.outcomes_command.ensures.app c.outcomes_command.ensures.local c.in_ok-with_outcomes.ensures in
+    let sum_is = grown _ _ _ c.sum_command.result _ sample_is c.sum_command.ensures.app c.sum_command.ensures.local c.in_ok-with_sum.ensures in
+    let outcomes_is = grown _ _ _ c.outcomes_command.result _ sum_is c.outcomes_command.ensures.app c.outcomes_command.ensures.local c.in_ok-with_outcomes.ensures in
     let lint_is = grown _ _ _ c.lint_command.result _ outcomes_is c.lint_command.ensures.app c.lint_command.ensures.local c.in_ok-with_lint.ensures in
     let grade_is = grown _ _ _ c.grade_command.result _ lint_is c.grade_command.ensures.app c.grade_command.ensures.local c.in_ok-with_grade.ensures in
-    all_grown _ _ _ c.live_command.result _ grade_is c.live_command.ensures.app c.live_command.ensures.local c.with_subcommand-11.ensures
+    all_grown _ _ _ c.live_command.result _ grade_is c.live_command.ensures.app c.live_command.ensures.local c.with_subcommand-12.ensures

@@ -1,0 +1,13 @@
+mod Counting
+mod Cutting
+mod ItemReading
+mod Joining
+mod LineReading
+mod ListedReading
+mod Ordered
+mod Ranking
+mod ReadingBack
+mod RoomReading
+mod SamplesAdd
+mod Summing
+mod Unreadable

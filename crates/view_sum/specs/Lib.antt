@@ -1,0 +1,13 @@
+pub mod Adding
+pub mod Counts
+pub mod Fields
+pub mod Files
+pub mod Forms
+pub mod Lines
+pub mod Plain
+pub mod Reading
+pub mod Refusals
+pub mod Samples
+pub mod Sampling
+pub mod Sums
+pub mod Words
