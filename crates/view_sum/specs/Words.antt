@@ -38,7 +38,7 @@ subject_words other _ = []
 -- what helps
 abbrev pub hint_words : Reason → List ℕ
 hint_words Malformed = codes "each file is what `bgview sample --json` wrote"
-hint_words NotOfSample = codes "each file is what `bgview sample --json` wrote, without `--top` and `--outcome`"
+hint_words NotOfSample = codes "each file is what `bgview sample --json` wrote, without `--top`, `--outcome` and `--keeps`"
 hint_words OtherRoom = codes "the outcomes of a room come right before its own line"
 hint_words (OtherCount listed) = codes "sample the parts without `--top`, and show fewer outcomes by `bgview sum --top`"
 hint_words Unended = codes "perhaps the sample was not written to its end"

@@ -103,7 +103,7 @@ fn hint_words(reason: Reason) -> &'static [u8]
     match reason {
         Reason::Malformed => b"each file is what `bgview sample --json` wrote",
         Reason::NotOfSample =>
-            b"each file is what `bgview sample --json` wrote, without `--top` and `--outcome`",
+            b"each file is what `bgview sample --json` wrote, without `--top`, `--outcome` and `--keeps`",
         Reason::OtherRoom => b"the outcomes of a room come right before its own line",
         Reason::OtherCount { .. } =>
             b"sample the parts without `--top`, and show fewer outcomes by `bgview sum --top`",
