@@ -1,6 +1,7 @@
 """What a page has to show of the rooms of a script, computed anew from what `bgview trace` answers to it, and its events from `bgview transcript`
 of the script up to each step."""
 
+import itertools
 import re
 
 from differing import Differs, answered, holds
@@ -46,21 +47,29 @@ def replies_of(trace):
     return replies
 
 
-def rooms_of_script(script, trace):
-    """The rooms that were opened, in order: the block, the commands, and the moments, each a step or a crash."""
+def rooms_of_script(script, trace, openings=()):
+    """The rooms that were opened, in order: the block, the commands, and the moments, each a step or a crash; and what is open after each command, if that is said."""
     rooms, opened = [], {}
-    for (entry, block), reply in zip(entries_of(script), replies_of(trace)):
+    for (entry, block), reply, opening in itertools.zip_longest(entries_of(script), replies_of(trace), openings):
         words = reply["line"].split(" ")
         if words[1] == "opened":
-            opened[words[0]] = {"name": words[0], "block": block, "commands": [], "moments": [], "said": [], "compare": compare_simulated}
+            opened[words[0]] = {"name": words[0], "block": block, "commands": [], "moments": [], "said": [], "openings": [], "compare": compare_simulated}
             rooms.append(opened[words[0]])
         elif " refused " not in reply["line"] and words[0] in opened:
             play_command(opened[words[0]], entry, words, reply)
+        if opening and "room" in opening:
+            note_opening(opened[words[0]], opening)
         if words[1:] == ["closed"]:
             del opened[words[0]]
     for room in rooms:
         room["sentences"] = ["Nobody has taken a step.", *map(sentence_of, room["moments"])]
     return rooms
+
+
+def note_opening(room, opening):
+    """How many outcomes are open after a command, and which, each as the ends of its processes."""
+    ends = opening["open"] and [" ".join(str(end["value"]) if end["state"] == "decided" else end["state"] for end in outcome) for outcome in opening["open"]]
+    room["openings"].append({"at": len(room["moments"]), "open": ends, "complete": opening["complete"]})
 
 
 def play_command(room, entry, words, reply):
@@ -232,6 +241,7 @@ def compare_simulated(room, panels, columns):
         compare_frames(where, panel, room["moments"][count - 1]["operation"] if count else "", set(now["own"]) - set(all_now[count - 1]["own"] if count else []))
         compare_processes(where, room, panel, now, count)
         compare_hints(where, panel, now)
+        compare_outcomes(where, room, panel, count)
         compare_lanes(where, room, panel, panel["drawn"], now, all_now[-1], count, columns)
         if panel["hidden"]:
             compare_lanes(f"{where} without the future", {**room, "moments": room["moments"][:count]}, panel, panel["hidden"], now, now, count, columns, len(room["moments"]))
@@ -262,7 +272,7 @@ def compare_decision(where, moment, before, now):
 
 
 def compare_words(where, panel, now):
-    numbers, _, values, _ = panel["tables"]
+    numbers, _, values = panel["tables"][:3]
     for i, row in enumerate(numbers):
         holds(f"{where}: the step numbers of simulator {i}", row, [f"simulator {i}" + (f" {CROSS}" if i in now["crashed"] else ""), *(str(now["counted"].get((i, p), 0)) for p in range(len(row) - 2)), now["own"].get(i, "")])
     for p, row in enumerate(values):
@@ -309,7 +319,7 @@ def touches(operation, kind, *numbers):
 
 def compare_frames(where, panel, operation, deciding):
     """The red frames: around the fields that the operation is on, and the decision of a simulator that decides. Who reads a proposal doesn't touch it."""
-    numbers, agreements, values, _ = [[["now" in classes.split() for classes in row[1:]] for row in table] for table in panel["classes"]]
+    numbers, agreements, values, _ = [[["now" in classes.split() for classes in row[1:]] for row in table] for table in panel["classes"][:4]]
     holds(f"{where}: the frames of step numbers", numbers, [[*(operation.startswith("load the step numbers") or touches(operation, "step", i, p) for p in range(len(row) - 1)), i in deciding] for i, row in enumerate(numbers)])
     holds(f"{where}: the frames of values", values, [[touches(operation, "value", None, p, r) for r in range(1, len(row) + 1)] for p, row in enumerate(values)])
     for row, frames in zip(panel["tables"][1], agreements):
@@ -364,7 +374,7 @@ def compare_processes(where, room, panel, now, count):
 
 def compare_hints(where, panel, now):
     """The hints that have numbers in them: of step numbers, decisions, values and agreements."""
-    numbers, agreements, values, _ = panel["hints"]
+    numbers, agreements, values = panel["hints"][:3]
     for i, row in enumerate(numbers):
         holds(f"{where}: the hint of a decision", row[-1], f"simulator {i} has {'decided ' + now['own'][i] if i in now['own'] else 'not decided'}")
         for p, hint in enumerate(row[1:-1]):
@@ -388,6 +398,60 @@ def hint_of(now, i, key):
     seen = [("no write" if entry == "." else "1 write" if entry == "1" else f"{entry} writes") + f" of process {p}" for p, entry in enumerate(proposal)]
     row = seen[0] if len(seen) == 1 else ", ".join(seen[:-1]) + " and " + seen[-1]
     return begin + f"it proposes a snapshot with {row}" + ("" if chosen is None else "; it is chosen" if chosen == i else "; another one is chosen")
+
+
+def closed_by(openings, outcome):
+    """The command after which all that is open is known, and an outcome is not among that; or None."""
+    return next((opening for opening in openings if opening["complete"] and outcome not in opening["open"]), None)
+
+
+def compare_outcomes(where, room, panel, count):
+    """The table of outcomes that were open, if what is open is said: each with the step that closed it."""
+    openings = [opening for opening in room["openings"] if opening["at"] <= count]
+    if not openings:
+        holds(f"{where}: the tables", len(panel["tables"]), 4)
+        return
+    last = openings[-1]
+    holds(f"{where}: the title of outcomes", panel["titles"][4], f"Outcomes that could still be reached after step {last['at']}" + ("" if last["complete"] else ", as far as known"))
+    known = list(dict.fromkeys(outcome for opening in openings for outcome in opening["open"] or []))
+    rows, frames, hints = [], [], []
+    for number, outcome in enumerate(known, 1):
+        closing = closed_by(openings, outcome)
+        standing = f"closed by step {closing['at']}" if closing else "open" if outcome in (last["open"] or []) else "not known"
+        rows.append([str(number), *outcome.split(" "), standing])
+        frames.append(bool(closing) and closing["at"] == count == last["at"])
+        hints.append([f"process {p} {'decides' if end.isdigit() else 'is'} {end}" for p, end in enumerate(outcome.split(" "))])
+    holds(f"{where}: the outcomes", panel["tables"][4], rows)
+    holds(f"{where}: the frames of outcomes", ["now" in row[-1].split() for row in panel["classes"][4]], frames)
+    holds(f"{where}: the hints of outcomes", [row[1:-1] for row in panel["hints"][4]], hints)
+
+
+def number_open(opening):
+    return "?" if opening["open"] is None else str(len(opening["open"])) + ("" if opening["complete"] else "+")
+
+
+def hint_of_opening(openings, index):
+    opening = openings[index]
+    if opening["open"] is None:
+        return f"after step {opening['at']}: the search met its limit"
+    number = len(opening["open"])
+    said = f"after step {opening['at']}: {number} outcome{'' if number == 1 else 's'} can still be reached" + ("" if opening["complete"] else ", and maybe more")
+    before = (openings[index - 1]["open"] or []) if index else []
+    return said + "".join(f"; not any more: {outcome}" for outcome in before if opening["complete"] and outcome not in opening["open"])
+
+
+def compare_openings(where, room, drawn, count, first, columns, simulators, is_hidden):
+    """The row of how many outcomes are open: a number where it changes, and at the first moment that is drawn."""
+    openings = room["openings"]
+    before = max((index for index, opening in enumerate(openings) if opening["at"] <= first), default=None)
+    y = TOP + simulators * LANE + 6 + len(room["block"][2].split(" ")[1:]) * EVENTS + 15
+    wanted = []
+    for index, opening in enumerate(openings):
+        is_change = first < opening["at"] <= first + columns and number_open(opening) != number_open(openings[index - 1])
+        if (index == before or is_change) and not (is_hidden and opening["at"] > count):
+            passed = opening["at"] <= count
+            wanted.append({"text": number_open(opening), "x": LEFT + max(0, opening["at"] - first) * SQUARE, "y": y, "pale": not passed, "bold": passed, "fill": "var(--now)" if index and opening["at"] > first else "var(--ink)", "hint": hint_of_opening(openings, index)})
+    holds(f"{where}: the row of outcomes", drawn["openings"], wanted)
 
 
 def compare_lanes(where, room, panel, drawn, now, final, count, columns, total=None):
@@ -415,6 +479,7 @@ def compare_lanes(where, room, panel, drawn, now, final, count, columns, total=N
     holds(f"{where}: whether the line of the moment crosses an event", drawn["isCrossed"], False)
     holds(f"{where}: the hatching", sorted(drawn["hatched"]), sorted([place(begin), TOP + i * LANE - 4, (end - begin) * SQUARE] for i, begin, end in parts if begin < end))
     holds(f"{where}: the current moment", drawn["now"], place(count))
+    compare_openings(where, room, drawn, count, first, columns, simulators, total is not None)
 
 
 def inside_parts(moments):

@@ -24,6 +24,7 @@
     hatched: [...svg.querySelectorAll('rect[fill="url(#hatch)"]')].map(rect => ['x', 'y', 'width'].map(name => number(rect, name))),
     crosses: [...svg.querySelectorAll('text')].filter(text => text.textContent === '\u2715').map(text => [number(text, 'x'), number(text, 'y')]),
     turns: [...svg.querySelectorAll('.turn')].map(text => [text.textContent, number(text, 'x'), number(text, 'y')]),
+    openings: [...svg.querySelectorAll('.opening')].map(text => ({ text: text.lastChild.textContent, x: number(text, 'x'), y: number(text, 'y'), pale: number(text, 'opacity') < 1, bold: number(text, 'font-weight') > 400, fill: text.getAttribute('fill'), hint: text.querySelector('title').textContent })),
     names: [...svg.querySelectorAll('.name')].map(text => text.textContent),
     now: Number(svg.querySelector('.now-line').getAttribute('d').split(' ')[1]),
     isCrossed: [...svg.querySelectorAll('g')].some(group => svg.querySelector('.now-line').compareDocumentPosition(group) === Node.DOCUMENT_POSITION_PRECEDING && group.querySelector('path')),
@@ -31,6 +32,7 @@
   const panelShown = panel => ({
     head: ['h1', '.about', '.protocol'].map(name => panel.querySelector(name).textContent),
     sentence: [...panel.querySelector('.sentence').childNodes].map(node => node.textContent).join('|'),
+    titles: [...panel.querySelectorAll('.tables h2')].map(title => title.textContent),
     tables: [...panel.querySelectorAll('.tables table')].map(cells),
     classes: [...panel.querySelectorAll('.tables table')].map(classes),
     hints: [...panel.querySelectorAll('.tables table')].map(hints),

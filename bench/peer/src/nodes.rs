@@ -294,13 +294,9 @@ pub fn nodes(
     brief: bool,
     out: &mut Vec<u8>,
 ) -> Result<Outcome, Ended> {
-    let mut cursor = Cursor::new(input);
     let mut code = Code::default();
     let mut machine = Machine::new();
-    let mut specs = Vec::new();
-    while !cursor.at_end() {
-        specs.extend(cursor.block(&mut code).ok());
-    }
+    let specs = Cursor::new(input).blocks(&mut code);
     let mut engine = Engine {
         code: &code,
         machine: &mut machine,

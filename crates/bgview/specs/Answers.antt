@@ -30,7 +30,9 @@ use Rattle.view_outcomes.specs.declared.search.Search.{Search}
 use Rattle.view_outcomes.specs.declared.values.ValuesFault.{ValuesFault}
 use Rattle.view_draw.specs.Drawn.{IsDrawn}
 use Rattle.view_transcript.specs.Transcripts.{IsTranscribed}
-use Rattle.view_page.specs.Pages.{IsKeptPage, IsPageFor, fault_among, fault_in}
+use Rattle.view_page.specs.Pages.{IsKeptPage, IsOpenPage, IsPageFor, fault_among, fault_in}
+use Rattle.view_open.specs.Watched.{IsOpenFor}
+use Rattle.view_open.specs.declared.plan.OpenPlan.{OpenPlan}
 use Rattle.view_rooms.specs.Blocks.{IsRoomsFor}
 use Rattle.view_rooms.specs.declared.plan.RoomPlan.{RoomPlan}
 use Rattle.room_sample.specs.declared.sampling.Plan.{Plan}
@@ -44,12 +46,14 @@ use Rattle.bgview.specs.declared.request.Explaining.{Explaining}
 use Rattle.bgview.specs.declared.request.Grading.{Grading}
 use Rattle.bgview.specs.declared.request.OfInput.{OfInput}
 use Rattle.bgview.specs.declared.request.OfInput.TheVariants.{Live, Whole}
+use Rattle.bgview.specs.declared.request.Paging.{Paging}
 use Rattle.bgview.specs.declared.request.Request.{Request}
-use Rattle.bgview.specs.declared.request.Request.TheVariants.{Why, Trace, Draw, Page, Transcript, Grade, Sample, Outcomes, Lint}
+use Rattle.bgview.specs.declared.request.Request.TheVariants.{Why, Trace, Draw, Page, Transcript, Grade, Sample, Outcomes, Open, Lint}
 use Rattle.bgview.specs.declared.request.Sampling.{Sampling}
 use Rattle.bgview.specs.declared.request.Searching.{Searching}
 use Rattle.bgview.specs.declared.fault.OptionFault.{OptionFault}
-use Rattle.bgview.specs.declared.fault.OptionFault.TheVariants.{Alone, Both, Goal, Inputs, Keeps, Rooms}
+use Rattle.bgview.specs.declared.fault.OptionFault.TheVariants.{Alone, Both, Goal, Inputs, Keeps, OpenTask, Rooms}
+use Rattle.bgview.specs.declared.fault.OptionFault.TheVariants as option_faults
 use Rattle.bgview.specs.declared.fault.ViewFault.{ViewFault}
 use Rattle.bgview.specs.declared.fault.ViewFault.TheVariants.{BadInput, BadOption, BadPart, Device, Incomplete}
 
@@ -150,6 +154,10 @@ is_json Json = true
 abbrev pub room_plan : Searching → RoomPlan
 room_plan searching = record { crashes = searching.crashes; nodes = searching.nodes; brief = searching.brief; json = is_json searching.form }
 
+-- how the rooms of a script are searched
+abbrev pub open_plan : Searching → OpenPlan
+open_plan searching = record { crashes = searching.crashes; nodes = searching.nodes; json = is_json searching.form }
+
 -- all schedules of the simulators are searched, or all runs
 abbrev pub IsSearchShownBy : Bool → Searching → List ℕ → Result Outcome AllocError → List ℕ → Type 0
 IsSearchShownBy true searching input ending output = IsWhole (IsRoomsFor (room_plan searching) input) ending output
@@ -172,38 +180,51 @@ IsSampledWith (Some lines) plan input ending output = IsWhole (IsKeptSample line
 abbrev pub IsSamplingShown : Sampling → List ℕ → Result Outcome AllocError → List ℕ → Type 0
 IsSamplingShown sampling input ending output = (task : Option (List Tree)) × IsTaskOf (sampled_by sampling) task × IsSampledWith task sampling.plan input ending output
 
--- a page of the file; or of the transcript that it is read as, whose runs are judged by the task that this text says
-abbrev pub IsPageShown : Option (List ℕ) → List ℕ → Result Outcome AllocError → List ℕ → Type 0
-IsPageShown None input ending output = IsPageFor (input ∷ []) ending output
-IsPageShown (Some text) input ending output = (lines : List Tree) × (task_in text ≡ Ok lines) × IsWhole (IsKeptPage lines input) ending output
+-- a page of the file; or of the transcript that it is read as, whose runs are judged by the task that this text says; or of the script that it is read as, with the outcomes
+-- that are open after each command
+abbrev pub IsPageWith : Option (List ℕ) → Option OpenPlan → List ℕ → Result Outcome AllocError → List ℕ → Type 0
+IsPageWith None None input ending output = IsPageFor (input ∷ []) ending output
+IsPageWith (Some text) None input ending output = (lines : List Tree) × (task_in text ≡ Ok lines) × IsWhole (IsKeptPage lines input) ending output
+IsPageWith None (Some plan) input ending output = IsOpenPage plan input ending output
+IsPageWith (Some text) (Some plan) input ending output = ⊥
+
+abbrev pub IsPageShown : Paging → List ℕ → Result Outcome AllocError → List ℕ → Type 0
+IsPageShown paging input ending output = IsPageWith (text_of paging.keeps) paging.search input ending output
 
 -- as text, or as JSON if that is asked for
 abbrev pub IsShown : Request → List ℕ → Result Outcome AllocError → List ℕ → Type 0
 IsShown (Why explaining) input ending output = IsWhyShown explaining input ending output
 IsShown (Trace json) input ending output = IsTraceIn json input ending output
 IsShown (Draw style) input ending output = IsDrawn style input ending output
-IsShown (Page keeps) input ending output = IsPageShown (text_of keeps) input ending output
+IsShown (Page paging) input ending output = IsPageShown paging input ending output
 IsShown Transcript input ending output = IsTranscribed input ending output
 IsShown (Grade grading) input ending output = IsGradeFor grading input ending output
 IsShown (Sample sampling) input ending output = IsSamplingShown sampling input ending output
 IsShown (Outcomes searching) input ending output = IsSearchShown searching input ending output
+IsShown (Open searching) input ending output = IsOpenFor (open_plan searching) input ending output
 IsShown (Lint json) input ending output = IsWhole (IsLintIn json input) ending output
 
 -- ---- why nothing is shown
 
--- the first fault of a file of which a page is made
-abbrev pub page_fault : Option (List ℕ) → List ℕ → Option FaultAt
-page_fault None input = fault_among (input ∷ [])
-page_fault (Some text) input = fault_in (input_says input)
+-- the first fault of a file of which a page is made, if it is a page with this task of one's own and these searches of what is open
+abbrev pub fault_of_page : Option (List ℕ) → Option OpenPlan → List ℕ → Option FaultAt
+fault_of_page None None input = fault_among (input ∷ [])
+fault_of_page (Some text) None input = fault_in (input_says input)
+fault_of_page None (Some plan) input = fault_in (script_says input)
+fault_of_page (Some text) (Some plan) input = None
+
+abbrev pub page_fault : Paging → List ℕ → Option FaultAt
+page_fault paging input = fault_of_page (text_of paging.keeps) paging.search input
 
 -- the input's first fault and its line, by what the input is read as: rooms are refused one by one, so a file of rooms has no fault
 abbrev pub first_fault : Request → List ℕ → Option FaultAt
 first_fault (Why explaining) input = fault_in (input_says input)
 first_fault (Trace json) input = fault_in (script_says input)
 first_fault (Draw style) input = fault_in (script_says input)
-first_fault (Page keeps) input = page_fault (text_of keeps) input
+first_fault (Page paging) input = page_fault paging input
 first_fault Transcript input = fault_in (script_says input)
 first_fault (Grade grading) input = fault_in (script_says input)
+first_fault (Open searching) input = fault_in (script_says input)
 first_fault _ input = None
 
 abbrev pub goal_fault_in : {A : Type 0} → Result A GoalFault → Option OptionFault
@@ -236,6 +257,14 @@ is_more_of_rooms searching = is_some searching.top || (is_some searching.outcome
 abbrev pub rooms_fault : Searching → Option OptionFault
 rooms_fault searching = if is_more_of_rooms searching then Some Rooms else None
 
+-- something is asked for that is none of the outcomes that are open in the rooms of a script
+abbrev pub is_more_of_open : Searching → Bool
+is_more_of_open searching = searching.rooms || (searching.brief || is_more_of_rooms searching)
+
+-- the fault of the options of `outcomes --open`
+abbrev pub open_fault : Searching → Option OptionFault
+open_fault searching = if is_more_of_open searching then Some option_faults.Open else None
+
 -- the fault of the options of `outcomes` without `--rooms`
 abbrev pub runs_fault : Searching → Option OptionFault
 runs_fault searching = if is_more_asked searching then Some Alone else search_fault (values_text searching) (keeps_text searching)
@@ -248,6 +277,15 @@ searching_fault searching = if searching.rooms then rooms_fault searching else r
 abbrev pub keeps_fault : Option (List ℕ) → Option OptionFault
 keeps_fault None = None
 keeps_fault (Some keeps) = keeps_fault_in (task_in keeps)
+
+-- the fault of the options of `page`: what is open is shown of a script, and a task of one's own judges a transcript; or that of the task
+abbrev pub paging_fault_of : Option (List ℕ) → Option OpenPlan → Option OptionFault
+paging_fault_of keeps None = keeps_fault keeps
+paging_fault_of None (Some plan) = None
+paging_fault_of (Some text) (Some plan) = Some OpenTask
+
+abbrev pub paging_fault : Paging → Option OptionFault
+paging_fault paging = paging_fault_of (text_of paging.keeps) paging.search
 
 -- the fault of the options of `sample`: one outcome alone is asked for, and so is whether a task is kept; or that of the task
 abbrev pub sampling_fault : Sampling → Option OptionFault
@@ -265,10 +303,11 @@ grade_fault keeps goal = either_fault (keeps_fault keeps) (goal_fault_in (goal_i
 -- the fault of a task of one's own, of the goal that a script is graded by, or of the options of `outcomes`
 abbrev pub option_fault : Request → Option OptionFault
 option_fault (Why explaining) = keeps_fault (judged_by explaining)
-option_fault (Page keeps) = keeps_fault (text_of keeps)
+option_fault (Page paging) = paging_fault paging
 option_fault (Grade grading) = grade_fault (kept_by grading) (goal_text grading)
 option_fault (Sample sampling) = sampling_fault sampling
 option_fault (Outcomes searching) = searching_fault searching
+option_fault (Open searching) = open_fault searching
 option_fault _ = None
 
 -- ---- the answer

@@ -3,6 +3,7 @@ pub mod Endings
 pub mod Ends
 pub mod Faults
 pub mod Notes
+pub mod OwnTasks
 pub mod Pages
 pub mod Requests
 pub mod Said

@@ -5,15 +5,18 @@ use Rattle.file_faults.specs.Files.{AreRoomFaults, AreTranscriptFaults}
 use Rattle.file_faults.specs.Scripts.{script_faults}
 use Rattle.file_faults.specs.Warnings.{file_warnings}
 use Rattle.view_grade.specs.Goals.{goal_forms}
+use Rattle.view_open.specs.declared.plan.OpenPlan.{OpenPlan}
 use Rattle.view_page.specs.Faults.{AreBothFaults, AreFileFaults, NamedFile}
 use Rattle.view_page.specs.Pages.{kind_of}
 use Rattle.bgview.specs.Answers.{text_of}
 use Rattle.bgview.specs.declared.request.OfInput.{OfInput}
 use Rattle.bgview.specs.declared.request.OfInput.TheVariants.{Live, Whole}
+use Rattle.bgview.specs.declared.request.Paging.{Paging}
 use Rattle.bgview.specs.declared.request.Request.{Request}
-use Rattle.bgview.specs.declared.request.Request.TheVariants.{Why, Trace, Draw, Page, Transcript, Grade, Sample, Outcomes, Lint}
+use Rattle.bgview.specs.declared.request.Request.TheVariants.{Why, Trace, Draw, Page, Transcript, Grade, Sample, Outcomes, Open, Lint}
 use Rattle.bgview.specs.declared.fault.OptionFault.{OptionFault}
-use Rattle.bgview.specs.declared.fault.OptionFault.TheVariants.{Alone, Both, Goal, Inputs, Keeps, Rooms, Second}
+use Rattle.bgview.specs.declared.fault.OptionFault.TheVariants.{Alone, Both, Goal, Inputs, Keeps, OpenTask, Rooms, Second, TwoTasks}
+use Rattle.bgview.specs.declared.fault.OptionFault.TheVariants as option_faults
 use Rattle.bgview.specs.declared.fault.ViewFault.{ViewFault}
 use Rattle.bgview.specs.declared.fault.ViewFault.TheVariants.{BadInput, BadOption, BadPart, Device, Incomplete}
 
@@ -61,10 +64,15 @@ abbrev pub AreSaidOfFile : List ℕ → List ℕ → Type 0
 AreSaidOfFile [] said = said ≡ file_warnings []
 AreSaidOfFile (byte ∷ bytes) said = AreFileFaults (kind_of (byte ∷ bytes)) (byte ∷ bytes) said
 
--- of a file of which a page is made: if its runs are judged by a task of one's own, it is read as a transcript
-abbrev pub ArePageNotes : {A : Type 0} → Option (List ℕ) → List ℕ → Result A ViewFault → List ℕ → Type 0
-ArePageNotes None file result notes = AreSaid (AreSaidOfFile file) result notes
-ArePageNotes (Some text) file result notes = AreSaid (AreTranscriptFaults file) result notes
+-- of a file of which a page is made, if it is a page with this task of one's own and these searches of what is open: it is read as a transcript then, or as a script
+abbrev pub AreNotesOfPage : {A : Type 0} → Option (List ℕ) → Option OpenPlan → List ℕ → Result A ViewFault → List ℕ → Type 0
+AreNotesOfPage None None file result notes = AreSaid (AreSaidOfFile file) result notes
+AreNotesOfPage (Some text) None file result notes = AreSaid (AreTranscriptFaults file) result notes
+AreNotesOfPage None (Some plan) file result notes = AreScriptNotes file result notes
+AreNotesOfPage (Some text) (Some plan) file result notes = ⊤
+
+abbrev pub ArePageNotes : {A : Type 0} → Paging → List ℕ → Result A ViewFault → List ℕ → Type 0
+ArePageNotes paging file result notes = AreNotesOfPage (text_of paging.keeps) paging.search file result notes
 
 -- of all faults of two files, in order, each after the name of its file
 abbrev pub AreBothNotes : {A : Type 0} → NamedFile → NamedFile → Result A ViewFault → List ℕ → Type 0
@@ -78,7 +86,10 @@ AreOptionNotes (Keeps fault) old new = new ≡ old
 AreOptionNotes Both old new = new ≡ old
 AreOptionNotes Alone old new = new ≡ old
 AreOptionNotes Rooms old new = new ≡ old
+AreOptionNotes option_faults.Open old new = new ≡ old
 AreOptionNotes Second old new = new ≡ old
+AreOptionNotes OpenTask old new = new ≡ old
+AreOptionNotes TwoTasks old new = new ≡ old
 
 -- of a goal that is not valid
 abbrev pub AreGoalNotes : {A : Type 0} → Result A ViewFault → List ℕ → List ℕ → Type 0
@@ -108,11 +119,12 @@ abbrev pub AreNotesOn : {A : Type 0} → Request → List ℕ → Result A ViewF
 AreNotesOn (Why explaining) input result old new = AreWhyNotes explaining.json input result old new
 AreNotesOn (Trace json) input result old new = AreScriptNotes input result new
 AreNotesOn (Draw style) input result old new = AreScriptNotes input result new
-AreNotesOn (Page keeps) input result old new = ArePageNotes (text_of keeps) input result new
+AreNotesOn (Page paging) input result old new = ArePageNotes paging input result new
 AreNotesOn Transcript input result old new = AreScriptNotes input result new
 AreNotesOn (Grade grading) input result old new = AreGradeNotes input result old new
 AreNotesOn (Sample sampling) input result old new = AreRoomNotes input result new
 AreNotesOn (Outcomes searching) input result old new = AreRoomNotes input result new
+AreNotesOn (Open searching) input result old new = AreScriptNotes input result new
 AreNotesOn (Lint json) input result old new = AreLintNotes json input result old new
 
 -- and of any input: `live` says its faults in place

@@ -13,7 +13,7 @@ use Rattle.bgview_command_line.specs.declared.words.Mode.{Mode}
 use Rattle.bgview_command_line.specs.declared.words.Mode.TheVariants.{Draw, Transcript}
 use Rattle.bgview.specs.Unread.{unread_note}
 use Rattle.bgview.specs.declared.ended.Ended.{Ended}
-use Rattle.bgview.specs.declared.fault.OptionFault.TheVariants.{Alone, Both, Goal, Inputs, Keeps, Rooms, Second}
+use Rattle.bgview.specs.declared.fault.OptionFault.TheVariants.{Alone, Both, Goal, Inputs, Keeps, Open, OpenTask, Rooms, Second, TwoTasks}
 use Rattle.bgview.specs.declared.fault.ViewFault.{ViewFault}
 use Rattle.bgview.specs.declared.fault.ViewFault.TheVariants.{BadInput, BadOption, BadPart, Device, Incomplete}
 use Rattle.bgview.specs.declared.unread.Unread.{Unread}
@@ -45,9 +45,12 @@ fault_words (BadOption (Goal fault)) = fault_text fault
 fault_words (BadOption (Inputs fault)) = values_fault_text fault
 fault_words (BadOption (Keeps fault)) = line_fault_text fault
 fault_words (BadOption Both) = codes "--inputs and --keeps can't be given together"
+fault_words (BadOption TwoTasks) = codes "--keeps and --keeps-file can't be given together"
 fault_words (BadOption Alone) = codes "--outcome can't be given together with --task, --inputs or --keeps"
 fault_words (BadOption Rooms) = codes "--rooms can't be given together with --top, --outcome, --task, --inputs or --keeps"
-fault_words (BadOption Second) = codes "--keeps can't be given together with a second file"
+fault_words (BadOption Open) = codes "--open can't be given together with --rooms, --brief, --top, --outcome, --task, --inputs or --keeps"
+fault_words (BadOption Second) = codes "--keeps and --open can't be given together with a second file"
+fault_words (BadOption OpenTask) = codes "--open and --keeps can't be given together"
 
 -- the file that was not read, and why
 abbrev pub unread_text : Option Unread → List ℕ

@@ -3,10 +3,10 @@ ghost use Rattle.std.specs.Prelude.{◌≡◌, Err, None, Some};
 ghost use Rattle.std.specs.Option.{option_map};
 ghost use Rattle.bgview.specs.Ends.{ending_status, is_read_failed};
 ghost use Rattle.bgview.specs.Unread.{IsUnreadIf, path_of};
-ghost use Rattle.bgview.specs.declared.fault.ViewFault.TheVariants.{Device};
+ghost use Rattle.bgview.specs.declared.fault.ViewFault.TheVariants.{BadOption, Device};
 ghost use Rattle.io_text.specs.declared.fault.DeviceFault.TheVariants.{Memory, Read};
 
-use crate::fault::ViewFault;
+use crate::fault::{OptionFault, ViewFault};
 use crate::unread::{Unread, unread_file};
 use io_text::DeviceFault;
 use program_io::Inputs;
@@ -55,6 +55,17 @@ impl<'a> Ended<'a> {
         Ended {
             result: Err(ViewFault::Device(DeviceFault::Read)),
             unread: Some(unread),
+        }
+    }
+
+    /// No answer, since the options say nothing together.
+    pub fn refused(fault: OptionFault) -> Ended<'a>
+        ensures result { result.result ≡ Err (BadOption fault) }
+        ensures unread { result.unread ≡ None }
+    {
+        Ended {
+            result: Err(ViewFault::BadOption(fault)),
+            unread: None,
         }
     }
 

@@ -23,12 +23,18 @@ pub enum OptionFault {
     Keeps(LineFault),
     /// Values for inputs and a task of one's own are both given.
     Both,
+    /// A task of one's own is given as a text, and in a file.
+    TwoTasks,
     /// One outcome alone is asked for, and so is whether tasks are kept.
     Alone,
     /// All schedules of the simulators are searched, and something is asked for that is none of their outcomes.
     Rooms,
-    /// A page of two files is asked for, and so is whether runs keep a task of one's own.
+    /// The outcomes that are open in the rooms of a script are asked for, and so is something that is none of them.
+    Open,
+    /// A page of two files is asked for, and so is what is said of one alone: whether runs keep a task of one's own, or which outcomes are open.
     Second,
+    /// A page is asked for that says which outcomes are open after each command of a script, and whether runs keep a task of one's own.
+    OpenTask,
 }
 
 /// Why an answer was not written whole.

@@ -5,15 +5,17 @@
 ghost use Rattle.std.specs.Prelude.{◌≡◌, ◌≤◌, ◌∷◌, All, IfErr, IfOk, IfSome, List, [], ℕ, false, length, map, option_and_then};
 ghost use Rattle.std.specs.Io.KnownBytes.{Appends};
 ghost use Rattle.clap.specs.Words.{subcommand_rows_of};
-ghost use Rattle.bgview_command_line.specs.CommandLine.{codes_among, files_among, other_among};
+ghost use Rattle.bgview_command_line.specs.CommandLine.{codes_among, files_among, keeps_file_among, other_among};
 ghost use Rattle.io_text.specs.Reading.{most_bytes};
-ghost use Rattle.bgview.specs.Endings.{IsAnswered, IsEnding, IsInputDone, IsReadBy, IsStatusFor, IsSumDone, IsUnreadOf, is_kept_page, named_by};
+ghost use Rattle.bgview.specs.Endings.{IsAnswered, IsAskedDone, IsEnding, IsInputDone, IsReadBy, IsStatusFor, IsSumDone, IsUnreadOf, is_page_of_one, named_by};
 ghost use Rattle.bgview.specs.Faults.{AreFaultsSaid};
+ghost use Rattle.bgview.specs.OwnTasks.{task_text};
 ghost use Rattle.bgview.specs.Sums.{IfAllKnown, IsNotRead, input_of, inputs_of};
 
 mod ended;
 mod engine;
 mod fault;
+mod own_task;
 mod progress;
 mod request;
 mod said;
@@ -21,12 +23,13 @@ mod showing;
 mod system;
 mod unread;
 
-use bgview_command_line::{line_in, read_words};
+use bgview_command_line::{line_in, read_words, text_if_any};
 use clap::ArgMatches;
 use ended::Ended;
 use engine::{Given, NamedReader, answer_io, fault_io, live_io, pages_io, sum_io};
 use fault::{OptionFault, ViewFault};
 use io_text::{Device, Text, read_input};
+use own_task::{judged_by, task_text};
 use program_io::{Inputs, unread_status, words, words_status};
 use progress::{Counter, Parts, has_terminal};
 use request::{OfInput, Request, Requested, requested_in};
@@ -112,7 +115,54 @@ fn end<'a, H: Threads + Sync, I: Inputs, W: Write, P: Progress>(
             unread: None,
         },
         Requested::Sum(form) => sum_files(system, writer, matches, &form, aside),
-        Requested::Input(asked) => with_file(system, writer, matches, &asked, aside),
+        Requested::Input(asked) => with_task(system, writer, matches, &asked, aside),
+    }
+}
+
+/// How the answer ends to what is asked of the input that the words name, judged by the task of one's own in the file that they name, if they name one.
+/// What is said of its faults becomes the notes of `aside`.
+fn with_task<'a, H: Threads + Sync, I: Inputs, W: Write, P: Progress>(
+    system: &System<'_, H, I>,
+    writer: &mut Device<W>,
+    matches: &ArgMatches<'a>,
+    asked: &OfInput<'_>,
+    aside: &mut Aside<P>,
+) -> Ended<'a>
+    requires writer { writer.old.failed ≡ false }
+    requires notes { aside.old.notes ≡ [] }
+    ensures { IsAskedDone (subcommand_rows_of matches.now)
+        (named_by (I.standard_bytes system.now.inputs.now) (I.file_bytes system.now.inputs.now) (subcommand_rows_of matches.now)) asked.now result aside.new.notes
+        (record { before = W.contents writer.old.inner; after = W.contents writer.new.inner }) }
+{
+    let Some(path) = text_if_any(matches, "keeps-file") else {
+        return with_file(system, writer, matches, asked, aside);
+    };
+    if text_if_any(matches, "keeps").is_some() {
+        return Ended::refused(OptionFault::TwoTasks);
+    }
+    let task = match read_task(system, path) {
+        Ok(task) => task,
+        Err(ended) => return ended,
+    };
+    let judged = judged_by(*asked, task.as_slice());
+    with_file(system, writer, matches, &judged, aside)
+}
+
+/// The task of one's own in the file of this path, as text; or how the program ends, if it is not read.
+fn read_task<'a, H, I: Inputs>(
+    system: &System<'_, H, I>,
+    path: &'a str,
+) -> Result<Vec<u8>, Ended<'a>>
+    ensures read { IfOk result (λ task. IfSome (I.file_bytes system.now.inputs.now path.now) (λ file. task.items ≡ task_text file)) }
+    ensures err { IfErr result (IsNotRead (path.now ∷ [])) }
+{
+    let file = match read_file(system, path) {
+        Ok(file) => file,
+        Err(ended) => return Err(ended),
+    };
+    match task_text(system.alloc, file.as_slice()) {
+        Ok(task) => Ok(task),
+        Err(_) => Err(Ended::out_of_memory()),
     }
 }
 
@@ -159,6 +209,7 @@ fn with_other<'a, H: Threads + Sync, I: Inputs, R: Read + Drop, W: Write, P: Pro
           first = R.remaining input;
           second = option_and_then (I.file_bytes system.now.inputs.now) (other_among (subcommand_rows_of matches.now));
           all = inputs_of (I.standard_bytes system.now.inputs.now) (I.file_bytes system.now.inputs.now) (files_among (subcommand_rows_of matches.now));
+          task = option_and_then (I.file_bytes system.now.inputs.now) (keeps_file_among (subcommand_rows_of matches.now));
         }) asked.now result.result aside.new.notes
         (record { before = W.contents writer.old.inner; after = W.contents writer.new.inner }) }
     ensures unread { IsUnreadOf (subcommand_rows_of matches.now) result }
@@ -168,7 +219,7 @@ fn with_other<'a, H: Threads + Sync, I: Inputs, R: Read + Drop, W: Write, P: Pro
         let result = answered(system, input, writer, asked, aside);
         return Ended::of(system.inputs, result, line.file);
     };
-    if is_kept_page(asked) {
+    if is_page_of_one(asked) {
         let refused = Err(ViewFault::BadOption(OptionFault::Second));
         return Ended::of(system.inputs, refused, line.file);
     }
@@ -195,12 +246,12 @@ fn with_other<'a, H: Threads + Sync, I: Inputs, R: Read + Drop, W: Write, P: Pro
     }
 }
 
-/// Whether a page is asked for whose runs are judged by a task of one's own.
-fn is_kept_page(asked: &OfInput<'_>) -> bool
-    ensures { result ≡ is_kept_page asked.now }
+/// Whether a page is asked for that says more of its file than the answer to it.
+fn is_page_of_one(asked: &OfInput<'_>) -> bool
+    ensures { result ≡ is_page_of_one asked.now }
 {
     match asked {
-        OfInput::Whole(Request::Page { keeps }) => keeps.is_some(),
+        OfInput::Whole(Request::Page(paging)) => paging.keeps.is_some() || paging.search.is_some(),
         _ => false,
     }
 }
@@ -308,12 +359,24 @@ fn read_one<'a, H, I: Inputs>(
         let read = read_input(system.alloc, &mut Device::new(system.inputs.standard()));
         return read.map_err(|fault| Ended::of(system.inputs, Err(fault.into()), None));
     }
-    match system.inputs.open(name) {
+    read_file(system, name)
+}
+
+/// The bytes of the file of this path; or how the program ends, if it is not read.
+fn read_file<'a, H, I: Inputs>(
+    system: &System<'_, H, I>,
+    path: &'a str,
+) -> Result<Vec<u8>, Ended<'a>>
+    ensures read { IfOk result (λ file. IfSome (I.file_bytes system.now.inputs.now path.now) (λ bytes. file.items ≡ bytes)) }
+    ensures fits { IfOk result (λ file. length file.items ≤ most_bytes) }
+    ensures err { IfErr result (IsNotRead (path.now ∷ [])) }
+{
+    match system.inputs.open(path) {
         Ok(input) => {
             let read = read_input(system.alloc, &mut Device::new(input));
-            read.map_err(|fault| Ended::of(system.inputs, Err(fault.into()), Some(name)))
+            read.map_err(|fault| Ended::of(system.inputs, Err(fault.into()), Some(path)))
         }
-        Err(error) => Err(Ended::not_opened(name, &error)),
+        Err(error) => Err(Ended::not_opened(path, &error)),
     }
 }
 

@@ -1,7 +1,9 @@
 //! What the words of the command line request.
+ghost use Rattle.std.specs.Prelude.{◌≡◌, codes, option_map};
 ghost use Rattle.clap.specs.Words.{subcommand_rows_of};
-ghost use Rattle.bgview_command_line.specs.CommandLine.{mode_among};
-ghost use Rattle.bgview.specs.Requests.{IsExplainingAmong, IsGradingAmong, IsPlanAmong, IsRequestedBy, IsSamplingAmong, IsSearchAmong, IsStyleAmong, IsSumFormAmong};
+ghost use Rattle.bgview_command_line.specs.CommandLine.{is_given, keeps_among, mode_among, value_among};
+ghost use Rattle.bgview_command_line.specs.declared.words.Mode.TheVariants.{Outcomes};
+ghost use Rattle.bgview.specs.Requests.{IsExplainingAmong, IsGradingAmong, IsOpenPlanAmong, IsOpenPlanIf, IsPagingAmong, IsPlanAmong, IsRequestBy, IsRequestedBy, IsSamplingAmong, IsSearchAmong, IsStyleAmong, IsSumFormAmong};
 
 use bgview_command_line::{
     Mode, is_given, line_in, number_among, number_if_any, text_among, text_if_any,
@@ -9,6 +11,7 @@ use bgview_command_line::{
 use clap::ArgMatches;
 use room_sample::Plan;
 use run_picture::Style;
+use view_open::OpenPlan;
 use view_outcomes::Form;
 use view_sum::SumForm;
 
@@ -18,7 +21,7 @@ pub struct Explaining<'a> {
     /// Whether it is as JSON.
     pub json: bool,
     /// A task of one's own, as text, if runs are judged by it.
-    pub keeps: Option<&'a str>,
+    pub keeps: Option<&'a [u8]>,
 }
 
 /// What a script is graded by.
@@ -29,7 +32,7 @@ pub struct Grading<'a> {
     /// How many commands `step` and `crash` the script may have.
     pub most: Option<u32>,
     /// A task of one's own, as text, if the histories of the script's rooms are judged by it.
-    pub keeps: Option<&'a str>,
+    pub keeps: Option<&'a [u8]>,
 }
 
 /// How rooms are sampled.
@@ -37,7 +40,7 @@ pub struct Grading<'a> {
 pub struct Sampling<'a> {
     pub plan: Plan,
     /// A task of one's own, as text, if the rooms' histories are judged by it.
-    pub keeps: Option<&'a str>,
+    pub keeps: Option<&'a [u8]>,
 }
 
 /// How rooms are searched, and what is asked of each, as far as the words say it.
@@ -61,7 +64,16 @@ pub struct Searching<'a> {
     /// The values of which inputs are made, as text, if the rooms' tasks are judged with all of them.
     pub values: Option<&'a str>,
     /// A task of one's own, as text, if runs are judged by it.
-    pub keeps: Option<&'a str>,
+    pub keeps: Option<&'a [u8]>,
+}
+
+/// What a page shows of its file besides the answer to it.
+#[derive(Clone, Copy)]
+pub struct Paging<'a> {
+    /// A task of one's own, as text, if the runs of a transcript are judged by it.
+    pub keeps: Option<&'a [u8]>,
+    /// How rooms are searched for the outcomes that are open after each command of a script, if these are shown.
+    pub search: Option<OpenPlan>,
 }
 
 /// What is requested of an input that is read whole before it is answered.
@@ -73,8 +85,8 @@ pub enum Request<'a> {
     Trace { json: bool },
     /// A picture of a script's rooms.
     Draw(Style),
-    /// A page that steps through a script or a transcript; or through a transcript whose runs are judged by a task of one's own, which is text.
-    Page { keeps: Option<&'a str> },
+    /// A page that steps through a script or a transcript.
+    Page(Paging<'a>),
     /// The rooms of a script as a transcript.
     Transcript,
     /// Whether a script reaches a goal.
@@ -83,6 +95,8 @@ pub enum Request<'a> {
     Sample(Sampling<'a>),
     /// The outcomes of all runs of rooms, or whether these keep a task; or the outcomes of all schedules of their simulators.
     Outcomes(Searching<'a>),
+    /// The outcomes that are still open after each command of a script.
+    Open(Searching<'a>),
     /// All faults of a file; as JSON or as text.
     Lint { json: bool },
 }
@@ -119,16 +133,24 @@ pub fn requested_in<'a>(matches: &ArgMatches<'a>) -> Requested<'a>
         Mode::Why => Request::Why(explaining_in(matches)),
         Mode::Trace => Request::Trace { json },
         Mode::Draw => Request::Draw(style_in(matches)),
-        Mode::Page => Request::Page {
-            keeps: text_if_any(matches, "keeps"),
-        },
+        Mode::Page => Request::Page(paging_in(matches)),
         Mode::Transcript => Request::Transcript,
         Mode::Grade => Request::Grade(grading_in(matches)),
         Mode::Sample => Request::Sample(sampling_in(matches)),
-        Mode::Outcomes => Request::Outcomes(search_in(matches)),
+        Mode::Outcomes => outcomes_in(matches),
         Mode::Lint => Request::Lint { json },
     };
     Requested::Input(OfInput::Whole(request))
+}
+
+/// The task of one's own that the words say, as text, if they say one.
+fn task_if_any<'a>(matches: &ArgMatches<'a>) -> Option<&'a [u8]>
+    ensures { option_map (λ text. text.now) result ≡ keeps_among (subcommand_rows_of matches.now) }
+{
+    match text_if_any(matches, "keeps") {
+        Some(text) => Some(text.as_bytes()),
+        None => None,
+    }
 }
 
 /// How a sum is written, as the words say.
@@ -148,7 +170,38 @@ fn explaining_in<'a>(matches: &ArgMatches<'a>) -> Explaining<'a>
 {
     Explaining {
         json: is_given(matches, "json"),
-        keeps: text_if_any(matches, "keeps"),
+        keeps: task_if_any(matches),
+    }
+}
+
+/// What a page shows, as the words say.
+fn paging_in<'a>(matches: &ArgMatches<'a>) -> Paging<'a>
+    ensures { IsPagingAmong (subcommand_rows_of matches.now) result }
+{
+    Paging {
+        keeps: task_if_any(matches),
+        search: open_if_any(matches),
+    }
+}
+
+/// How rooms are searched for the outcomes that are open, if the words ask for these.
+fn open_if_any(matches: &ArgMatches<'_>) -> Option<OpenPlan>
+    ensures { IsOpenPlanIf (is_given (value_among (codes "open") (subcommand_rows_of matches.now))) (subcommand_rows_of matches.now) result }
+{
+    if is_given(matches, "open") {
+        Some(open_plan_in(matches))
+    } else {
+        None
+    }
+}
+
+fn open_plan_in(matches: &ArgMatches<'_>) -> OpenPlan
+    ensures { IsOpenPlanAmong (subcommand_rows_of matches.now) result }
+{
+    OpenPlan {
+        crashes: number_if_any(matches, "crashes"),
+        nodes: number_among(matches, "nodes", 1000000),
+        json: is_given(matches, "json"),
     }
 }
 
@@ -169,7 +222,7 @@ fn grading_in<'a>(matches: &ArgMatches<'a>) -> Grading<'a>
     Grading {
         goal: text_among(matches, "goal"),
         most: number_if_any(matches, "commands"),
-        keeps: text_if_any(matches, "keeps"),
+        keeps: task_if_any(matches),
     }
 }
 
@@ -179,7 +232,7 @@ fn sampling_in<'a>(matches: &ArgMatches<'a>) -> Sampling<'a>
 {
     Sampling {
         plan: plan_in(matches),
-        keeps: text_if_any(matches, "keeps"),
+        keeps: task_if_any(matches),
     }
 }
 
@@ -201,6 +254,18 @@ fn plan_in(matches: &ArgMatches<'_>) -> Plan
     }
 }
 
+/// Whether the outcomes of rooms are requested, or those that are open in the rooms of a script.
+fn outcomes_in<'a>(matches: &ArgMatches<'a>) -> Request<'a>
+    ensures { IsRequestBy Outcomes (subcommand_rows_of matches.now) result }
+{
+    let searching = search_in(matches);
+    if is_given(matches, "open") {
+        Request::Open(searching)
+    } else {
+        Request::Outcomes(searching)
+    }
+}
+
 /// How outcomes are searched by what the words ask for.
 fn search_in<'a>(matches: &ArgMatches<'a>) -> Searching<'a>
     ensures { IsSearchAmong (subcommand_rows_of matches.now) result }
@@ -215,6 +280,6 @@ fn search_in<'a>(matches: &ArgMatches<'a>) -> Searching<'a>
         outcome: number_if_any(matches, "outcome"),
         task: is_given(matches, "task"),
         values: text_if_any(matches, "inputs"),
-        keeps: text_if_any(matches, "keeps"),
+        keeps: task_if_any(matches),
     }
 }

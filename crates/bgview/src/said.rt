@@ -81,6 +81,10 @@ fn say_words<E: Write>(errors: &mut Device<E>, fault: ViewFault) -> Result<(), D
         ViewFault::BadOption(OptionFault::Both) => {
             write_output(errors, b"--inputs and --keeps can't be given together")
         }
+        ViewFault::BadOption(OptionFault::TwoTasks) => write_output(
+            errors,
+            b"--keeps and --keeps-file can't be given together",
+        ),
         ViewFault::BadOption(OptionFault::Alone) => write_output(
             errors,
             b"--outcome can't be given together with --task, --inputs or --keeps",
@@ -89,11 +93,18 @@ fn say_words<E: Write>(errors: &mut Device<E>, fault: ViewFault) -> Result<(), D
             errors,
             b"--rooms can't be given together with --top, --outcome, --task, --inputs or --keeps",
         ),
+        ViewFault::BadOption(OptionFault::Open) => write_output(
+            errors,
+            b"--open can't be given together with --rooms, --brief, --top, --outcome, --task, --inputs or --keeps",
+        ),
         ViewFault::BadOption(OptionFault::Second) => {
             write_output(
                 errors,
-                b"--keeps can't be given together with a second file",
+                b"--keeps and --open can't be given together with a second file",
             )
+        }
+        ViewFault::BadOption(OptionFault::OpenTask) => {
+            write_output(errors, b"--open and --keeps can't be given together")
         }
     }
 }

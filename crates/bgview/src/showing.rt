@@ -1,5 +1,5 @@
 //! From a request and an input to what is shown: one call for each mode.
-ghost use Rattle.std.specs.Prelude.{◌≡◌, ◌≤◌, Ok, None, IfErr, IfOk, IsOk, false, length};
+ghost use Rattle.std.specs.Prelude.{◌≡◌, ◌≤◌, Ok, None, Some, IfErr, IfOk, IsOk, false, length};
 ghost use Rattle.io_text.specs.Reading.{most_bytes};
 ghost use Rattle.file_faults.specs.Lint.{IsLintIn};
 ghost use Rattle.room_files.specs.Blocks.{IsFaultOr};
@@ -12,16 +12,17 @@ ghost use Rattle.decision_tasks.specs.Tasks.{task_in};
 ghost use Rattle.view_outcomes.specs.Values.{values_in};
 ghost use Rattle.view_outcomes.specs.declared.search.Search.{Search as SearchValue};
 ghost use Rattle.view_page.specs.Pages.{fault_in};
-ghost use Rattle.bgview.specs.Answers.{AreRunsShown, Ends, EndsRequest, IsExplainedBy, IsGradeFor, IsPageShown, IsSamplingShown, IsSearchFor, IsSearchShown, IsShown, IsTaskOf, IsWhole, IsWhyShown, asked_alone, goal_fault_in, goal_text, grade_fault, is_json, is_more_asked, is_more_of_rooms, judged_by, keeps_fault, keeps_fault_in, keeps_text, kept_by, page_fault, room_plan, rooms_fault, runs_fault, sampled_by, sampling_fault, search_fault, searching_fault, text_of, values_fault_in, values_text};
+ghost use Rattle.bgview.specs.Answers.{AreRunsShown, Ends, EndsRequest, IsExplainedBy, IsGradeFor, IsPageShown, IsPageWith, IsSamplingShown, IsSearchFor, IsSearchShown, IsShown, IsTaskOf, IsWhole, IsWhyShown, asked_alone, goal_fault_in, goal_text, grade_fault, is_json, is_more_asked, is_more_of_open, is_more_of_rooms, judged_by, keeps_fault, keeps_fault_in, keeps_text, kept_by, open_fault, open_plan, page_fault, paging_fault, room_plan, rooms_fault, runs_fault, sampled_by, sampling_fault, search_fault, searching_fault, values_fault_in, values_text};
+ghost use Rattle.view_open.specs.Watched.{IsOpenFor};
 ghost use Rattle.view_rooms.specs.Blocks.{IsRoomsFor};
 ghost use Rattle.view_sample.specs.Keeping.{IsKeptSample};
 ghost use Rattle.view_sample.specs.Sample.{IsSampleFor};
 ghost use Rattle.view_trace.specs.Trace.{IsTraceIn};
 ghost use Rattle.view_why.specs.Why.{IsExplanationIn};
-ghost use Rattle.bgview.specs.Notes.{AreGoalNotes, AreGradeNotes, AreLintNotes, AreNotes, AreNotesOn, ArePageNotes, AreRoomNotes, AreSaidOfFile, AreWhyNotes};
+ghost use Rattle.bgview.specs.Notes.{AreGoalNotes, AreGradeNotes, AreLintNotes, AreNotes, AreNotesOfPage, AreNotesOn, ArePageNotes, AreRoomNotes, AreSaidOfFile, AreScriptNotes, AreWhyNotes};
 
 use crate::fault::{OptionFault, ViewFault};
-use crate::request::{Explaining, Grading, Request, Sampling, Searching};
+use crate::request::{Explaining, Grading, Paging, Request, Sampling, Searching};
 use crate::system::{Aside, System};
 use decision_tasks::DecisionTask;
 use file_faults::{lint, lint_json, room_faults, script_faults, transcript_faults, warnings_of};
@@ -34,8 +35,9 @@ use std::alloc::{AllocError, Global};
 use std::thread::Threads;
 use view_draw::draw;
 use view_grade::{Goal, goal_forms, grade, grade_kept, read_goal};
+use view_open::{OpenPlan, open_outcomes};
 use view_outcomes::{Asked, Form, Search, read_values, search_blocks};
-use view_page::{faults_of, page, page_of_kept};
+use view_page::{faults_of, page, page_of_kept, page_of_open};
 use view_rooms::{RoomPlan, search_rooms};
 use view_sample::{KeptPlan, sample_blocks, sample_kept};
 use view_trace::{trace, trace_json};
@@ -65,7 +67,7 @@ pub fn show<H: Threads + Sync, I, P: Progress>(
             aside.notes = script_faults(alloc, input)?;
             Ok(draw(alloc, *style, input)?)
         }
-        Request::Page { keeps } => paged(alloc, *keeps, input, &mut aside.notes),
+        Request::Page(paging) => paged(alloc, paging, input, &mut aside.notes),
         Request::Transcript => {
             aside.notes = script_faults(alloc, input)?;
             Ok(transcribe(alloc, input)?)
@@ -73,6 +75,7 @@ pub fn show<H: Threads + Sync, I, P: Progress>(
         Request::Grade(grading) => grade_or_note(alloc, grading, input, &mut aside.notes),
         Request::Sample(sampling) => sample_or_fail(system, sampling, input, aside),
         Request::Outcomes(searching) => search_or_fail(alloc, searching, input, aside),
+        Request::Open(searching) => open_or_fail(alloc, searching, input, &mut aside.notes),
         Request::Lint { json } => linted(alloc, *json, input, &mut aside.notes),
     }
 }
@@ -102,22 +105,44 @@ fn linted(alloc: Global, json: bool, input: &[u8], notes: &mut Text) -> Result<P
     Ok(whole(lint(alloc, input)?))
 }
 
-/// A page of a file, unless the task of one's own by which runs are judged is not valid. What is said of the file becomes `notes`.
+/// A page of a file, unless the options are not valid. What is said of the file becomes `notes`.
 fn paged(
     alloc: Global,
-    keeps: Option<&str>,
+    paging: &Paging<'_>,
     input: &[u8],
     notes: &mut Text,
 ) -> Result<PlayText, ViewFault>
     requires { length input.now ≤ most_bytes }
-    ensures shown { IfOk result (λ shown. IsPageShown (text_of keeps.entry) input.now shown.ending shown.output) }
-    ensures err { IfErr result (Ends (page_fault (text_of keeps.entry) input.now) (keeps_fault (text_of keeps.entry))) }
-    ensures notes { ArePageNotes (text_of keeps.entry) input.now result notes.new }
+    ensures shown { IfOk result (λ shown. IsPageShown paging.now input.now shown.ending shown.output) }
+    ensures err { IfErr result (Ends (page_fault paging.now input.now) (paging_fault paging.now)) }
+    ensures notes { ArePageNotes paging.now input.now result notes.new }
 {
-    let Some(text) = keeps else {
-        *notes = said_of_file(alloc, input)?;
-        return Ok(page(alloc, input)?);
-    };
+    match (paging.keeps, paging.search) {
+        (None, None) => {
+            *notes = said_of_file(alloc, input)?;
+            Ok(page(alloc, input)?)
+        }
+        (Some(text), None) => paged_by_task(alloc, text, input, notes),
+        (None, Some(plan)) => {
+            *notes = script_faults(alloc, input)?;
+            Ok(page_of_open(alloc, input, &plan)?)
+        }
+        (Some(_), Some(_)) => Err(ViewFault::BadOption(OptionFault::OpenTask)),
+    }
+}
+
+/// A page of a transcript whose runs are judged by the task of one's own that a text says, unless that is not valid. What is said of its faults becomes `notes`.
+fn paged_by_task(
+    alloc: Global,
+    text: &[u8],
+    input: &[u8],
+    notes: &mut Text,
+) -> Result<PlayText, ViewFault>
+    requires { length input.now ≤ most_bytes }
+    ensures shown { IfOk result (λ shown. IsPageWith (Some text.now) None input.now shown.ending shown.output) }
+    ensures err { IfErr result (Ends (fault_in (input_says input.now)) (keeps_fault_in (task_in text.now))) }
+    ensures notes { AreNotesOfPage (Some text.now) None input.now result notes.new }
+{
     let task = read_task(alloc, text)?;
     *notes = transcript_faults(alloc, input)?;
     Ok(whole(page_of_kept(alloc, input, &task)?))
@@ -177,11 +202,11 @@ fn task_or_fail(
 }
 
 /// The task of one's own that a text says.
-fn read_task(alloc: Global, text: &str) -> Result<DecisionTask, ViewFault>
+fn read_task(alloc: Global, text: &[u8]) -> Result<DecisionTask, ViewFault>
     ensures task { IfOk result (λ task. task_in text.now ≡ Ok task) }
     ensures err { IfErr result (Ends None (keeps_fault_in (task_in text.now))) }
 {
-    match DecisionTask::read(alloc, text.as_bytes())? {
+    match DecisionTask::read(alloc, text)? {
         Ok(task) => Ok(task),
         Err(fault) => Err(ViewFault::BadOption(OptionFault::Keeps(fault))),
     }
@@ -410,6 +435,44 @@ fn is_json(form: Form) -> bool
     matches!(form, Form::Json)
 }
 
+/// Says which outcomes are open after each command of a script, unless something is asked for that is none of them. What is said of the script's faults becomes `notes`.
+fn open_or_fail(
+    alloc: Global,
+    searching: &Searching<'_>,
+    script: &[u8],
+    notes: &mut Text,
+) -> Result<PlayText, ViewFault>
+    requires { length script.now ≤ most_bytes }
+    ensures shown { IfOk result (λ shown. IsOpenFor (open_plan searching.now) script.now shown.ending shown.output) }
+    ensures err { IfErr result (Ends (fault_in (script_says script.now)) (open_fault searching.now)) }
+    ensures notes { AreScriptNotes script.now result notes.new }
+{
+    if is_more_of_open(searching) {
+        return Err(ViewFault::BadOption(OptionFault::Open));
+    }
+    *notes = script_faults(alloc, script)?;
+    let plan = open_plan(searching);
+    Ok(open_outcomes(alloc, &plan, script)?)
+}
+
+/// Whether something is asked for that is none of the outcomes that are open in the rooms of a script.
+fn is_more_of_open(searching: &Searching<'_>) -> bool
+    ensures { result ≡ is_more_of_open searching.now }
+{
+    searching.rooms || searching.brief || is_more_of_rooms(searching)
+}
+
+/// How the rooms of a script are searched.
+fn open_plan(searching: &Searching<'_>) -> OpenPlan
+    ensures { result ≡ open_plan searching.now }
+{
+    OpenPlan {
+        crashes: searching.crashes,
+        nodes: searching.nodes,
+        json: is_json(searching.form),
+    }
+}
+
 /// Searches all runs of rooms, unless the options are not valid. What is said of refused blocks becomes the notes of `aside`.
 fn search_runs<P: Progress>(
     alloc: Global,
@@ -485,7 +548,7 @@ fn search_inputs<P: Progress>(
 fn search_kept<P: Progress>(
     alloc: Global,
     searching: &Searching<'_>,
-    text: &str,
+    text: &[u8],
     input: &[u8],
     aside: &mut Aside<P>,
 ) -> Result<PlayText, ViewFault>
@@ -494,7 +557,7 @@ fn search_kept<P: Progress>(
     ensures err { IfErr result (Ends None (keeps_fault_in (task_in text.now))) }
     ensures notes { AreRoomNotes input.now result aside.new.notes }
 {
-    match DecisionTask::read(alloc, text.as_bytes())? {
+    match DecisionTask::read(alloc, text)? {
         Ok(task) => {
             let search = search_for(searching, Asked::Keeps(&task));
             searched(alloc, &search, input, aside)

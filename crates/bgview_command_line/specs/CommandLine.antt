@@ -30,13 +30,35 @@ telling_app word = with_rule (file_app word) json_rule
 abbrev pub keeps_rule : Rule
 keeps_rule = record (new_rule (codes "keeps")) { long = Some (codes "keeps"); value_names = 1 }
 
--- the subcommand `why`, which takes besides a text
-abbrev pub why_app : App
-why_app = with_rule (telling_app (codes "why")) keeps_rule
+-- and one that takes the name of a file
+abbrev pub keeps_file_rule : Rule
+keeps_file_rule = record (new_rule (codes "keeps-file")) { long = Some (codes "keeps-file"); value_names = 1 }
 
--- the subcommand `page`, which takes one file or two, and a text
+-- a subcommand that takes besides a task of one's own, as a text or in a file
+abbrev pub with_own_task : App → App
+with_own_task app = with_rule (with_rule app keeps_rule) keeps_file_rule
+
+-- the subcommand `why`
+abbrev pub why_app : App
+why_app = with_own_task (telling_app (codes "why"))
+
+-- the subcommand `page` as far as it says of what: one file or two, and a task of one's own
+abbrev pub paged_app : App
+paged_app = with_own_task (with_rule (file_app (codes "page")) (new_rule (codes "OTHER")))
+
+-- an option that takes no value
+abbrev pub open_rule : Rule
+open_rule = record (new_rule (codes "open")) { long = Some (codes "open"); action = Some SetTrue }
+
+abbrev pub stopped_rule : Rule
+stopped_rule = number_rule (codes "crashes") 0 16
+
+abbrev pub nodes_rule : Rule
+nodes_rule = number_rule (codes "nodes") 1 100000000
+
+-- the subcommand `page`, which takes besides a flag and two numbers
 abbrev pub page_app : App
-page_app = with_rule (with_rule (file_app (codes "page")) (new_rule (codes "OTHER"))) keeps_rule
+page_app = with_rule (with_rule (with_rule paged_app open_rule) stopped_rule) nodes_rule
 
 abbrev pub scale_rule : Rule
 scale_rule = number_rule (codes "scale") 10 1000
@@ -86,15 +108,13 @@ drawing_app = with_rule (with_rule (with_rule (with_rule (file_app (codes "sampl
 abbrev pub choosing_app : App
 choosing_app = with_rule (with_rule (with_rule drawing_app group_rule) top_rule) outcome_rule
 
--- the subcommand `sample`, which takes besides a number, two flags and a text
+-- and how they are found and written
+abbrev pub sampling_app : App
+sampling_app = with_rule (with_rule (with_rule choosing_app workers_rule) json_rule) brief_rule
+
+-- the subcommand `sample`
 abbrev pub sample_app : App
-sample_app = with_rule (with_rule (with_rule (with_rule choosing_app workers_rule) json_rule) brief_rule) keeps_rule
-
-abbrev pub stopped_rule : Rule
-stopped_rule = number_rule (codes "crashes") 0 16
-
-abbrev pub nodes_rule : Rule
-nodes_rule = number_rule (codes "nodes") 1 100000000
+sample_app = with_own_task sampling_app
 
 -- an option that takes no value
 abbrev pub task_rule : Rule
@@ -104,9 +124,9 @@ task_rule = record (new_rule (codes "task")) { long = Some (codes "task"); actio
 abbrev pub rooms_rule : Rule
 rooms_rule = record (new_rule (codes "rooms")) { long = Some (codes "rooms"); action = Some SetTrue }
 
--- the subcommand `outcomes` as far as it says what is searched: a file, a flag and two numbers
+-- the subcommand `outcomes` as far as it says what is searched: a file, two flags and two numbers
 abbrev pub searching_app : App
-searching_app = with_rule (with_rule (with_rule (file_app (codes "outcomes")) rooms_rule) stopped_rule) nodes_rule
+searching_app = with_rule (with_rule (with_rule (with_rule (file_app (codes "outcomes")) rooms_rule) open_rule) stopped_rule) nodes_rule
 
 -- and which outcomes are shown
 abbrev pub picking_app : App
@@ -120,9 +140,9 @@ listing_app = with_rule (with_rule picking_app json_rule) brief_rule
 abbrev pub inputs_rule : Rule
 inputs_rule = record (new_rule (codes "inputs")) { long = Some (codes "inputs"); value_names = 1 }
 
--- the subcommand `outcomes`, which takes besides a flag and two texts
+-- the subcommand `outcomes`, which takes besides a flag and a text
 abbrev pub outcomes_app : App
-outcomes_app = with_rule (with_rule (with_rule listing_app task_rule) inputs_rule) keeps_rule
+outcomes_app = with_own_task (with_rule (with_rule listing_app task_rule) inputs_rule)
 
 -- an option that takes a text, and has to be there
 abbrev pub goal_rule : Rule
@@ -131,9 +151,9 @@ goal_rule = record (new_rule (codes "goal")) { long = Some (codes "goal"); value
 abbrev pub commands_rule : Rule
 commands_rule = number_rule (codes "commands") 0 1000000
 
--- the subcommand `grade`, which takes a file, a goal, a number and a text
+-- the subcommand `grade`, which takes a file, a goal and a number
 abbrev pub grade_app : App
-grade_app = with_rule (with_rule (with_rule (file_app (codes "grade")) goal_rule) commands_rule) keeps_rule
+grade_app = with_own_task (with_rule (with_rule (file_app (codes "grade")) goal_rule) commands_rule)
 
 -- one value of this name at least
 abbrev pub many_rule : List ℕ → Rule
@@ -174,6 +194,14 @@ value_among name found = option_and_then (λ sub. first_of name sub.1) found
 
 abbrev pub file_among : Option (List ℕ × List Row) → Option (List ℕ)
 file_among found = value_among (codes "FILE") found
+
+-- a task of one's own, as text
+abbrev pub keeps_among : Option (List ℕ × List Row) → Option (List ℕ)
+keeps_among found = value_among (codes "keeps") found
+
+-- the file that it is in
+abbrev pub keeps_file_among : Option (List ℕ × List Row) → Option (List ℕ)
+keeps_file_among found = value_among (codes "keeps-file") found
 
 -- the second file
 abbrev pub other_among : Option (List ℕ × List Row) → Option (List ℕ)

@@ -4,7 +4,7 @@ ghost use Rattle.clap.specs.Kinds.{FailsBy};
 ghost use Rattle.clap.specs.declared.builder.command.Command.TheViews.{out-Command};
 ghost use Rattle.clap.specs.Words.{app_of, fault_of, new_app, subcommand_of, subcommand_rows_of, with_rule, with_subcommand};
 ghost use Rattle.clap.specs.Walk.{rule_of};
-ghost use Rattle.bgview_command_line.specs.CommandLine.{bgview_app, brief_rule, choosing_app, commands_rule, crashes_rule, draw_app, drawing_app, fault_app, file_app, from_rule, goal_rule, grade_app, group_rule, inputs_rule, json_rule, keeps_rule, listing_app, outcome_rule, many_rule, outcomes_app, page_app, picking_app, plain_app, sample_app, scale_rule, schedules_rule, searching_app, rooms_rule, seed_rule, nodes_rule, stopped_rule, sum_app, task_rule, telling_app, top_rule, turns_rule, why_app, workers_rule};
+ghost use Rattle.bgview_command_line.specs.CommandLine.{bgview_app, brief_rule, choosing_app, commands_rule, crashes_rule, draw_app, drawing_app, fault_app, file_app, from_rule, goal_rule, grade_app, group_rule, inputs_rule, json_rule, keeps_file_rule, keeps_rule, listing_app, outcome_rule, many_rule, outcomes_app, open_rule, page_app, paged_app, picking_app, plain_app, sample_app, sampling_app, scale_rule, schedules_rule, searching_app, rooms_rule, seed_rule, nodes_rule, stopped_rule, sum_app, task_rule, telling_app, top_rule, turns_rule, why_app, workers_rule};
 
 use clap::{Arg, ArgAction, ArgMatches, Command, Error, value_parser};
 use std::alloc::{AllocError, Global};
@@ -43,7 +43,7 @@ fn telling_command<'a>(
     command.arg(json_option(alloc))
 }
 
-/// The subcommand `why`, which takes a file, a flag and a text.
+/// The subcommand `why`, which takes a file, a flag and two texts.
 fn why_command<'a>(alloc: Global) -> Result<Command<'a>, AllocError>
     ensures app { IfOk result (λ command. app_of command ≡ why_app) }
     ensures local { IfOk result (λ command. (out-Command command).has_globals ≡ false) }
@@ -52,13 +52,14 @@ fn why_command<'a>(alloc: Global) -> Result<Command<'a>, AllocError>
         alloc,
         "why",
         "Says of each room in a transcript whether its events are a run, and if not, why",
-        "bgview why [--json] [--keeps TASK] [FILE]",
+        "bgview why [--json] [--keeps TASK | --keeps-file TASKFILE] [FILE]",
         "The transcript; without it, standard input is read",
     )?;
-    why.arg(keeps_option(
+    let with_task = why.arg(keeps_option(
         alloc,
         "Judges whether one of these lines holds for each process that has decided, after each decision of each run, as in 'mine == min; mine == max': conditions as of `bgview outcomes --keeps`",
-    ))
+    ))?;
+    with_task.arg(keeps_file_option(alloc))
 }
 
 /// The subcommand `trace`.
@@ -116,24 +117,53 @@ fn turns_option<'a>(alloc: Global) -> Arg<'a>
         .help("Draws a box for each stretch of a turn, not for each step")
 }
 
-/// The subcommand `page`, which takes one file or two, and a text.
+/// The subcommand `page`, which takes one file or two, texts, a flag and numbers.
 fn page_command<'a>(alloc: Global) -> Result<Command<'a>, AllocError>
     ensures app { IfOk result (λ command. app_of command ≡ page_app) }
+    ensures local { IfOk result (λ command. (out-Command command).has_globals ≡ false) }
+{
+    let page = paged_command(alloc)?;
+    let with_open = page.arg(open_option(
+        alloc,
+        "Reads the file as a script, and shows which outcomes its rooms' simulators can still reach after each command; can't be given together with --keeps or a second file",
+    ))?;
+    let with_crashes = with_open.arg(stopped_option(
+        alloc,
+        "With --open, how many simulators crash at most, 0 to 16; without it, all but one",
+    ))?;
+    with_crashes.arg(nodes_option(alloc))
+}
+
+/// The option `--open`.
+fn open_option<'a>(alloc: Global, help: &'a str) -> Arg<'a>
+    ensures rule { rule_of result ≡ open_rule }
+    ensures local { result.global ≡ false }
+{
+    Arg::new(alloc, "open")
+        .long("open")
+        .action(ArgAction::SetTrue)
+        .help(help)
+}
+
+/// The subcommand `page` as far as it says of what a page is made.
+fn paged_command<'a>(alloc: Global) -> Result<Command<'a>, AllocError>
+    ensures app { IfOk result (λ command. app_of command ≡ paged_app) }
     ensures local { IfOk result (λ command. (out-Command command).has_globals ≡ false) }
 {
     let page = file_command(
         alloc,
         "page",
         "Makes a page that steps through a script or a transcript in a browser, or through two next to each other, as HTML",
-        "bgview page [--keeps TASK] [FILE [OTHER]]",
+        "bgview page [--keeps TASK | --keeps-file TASKFILE] [--open] [--crashes F] [--nodes N] [FILE [OTHER]]",
         "The script or transcript; without it, standard input is read",
     )?;
     let other = Arg::new(alloc, "OTHER").help("A second one, which is shown next to the first");
     let with_other = page.arg(other)?;
-    with_other.arg(keeps_option(
+    let with_task = with_other.arg(keeps_option(
         alloc,
         "Reads the file as a transcript, and shows in addition what `bgview why --keeps` says of it; can't be given together with a second file",
-    ))
+    ))?;
+    with_task.arg(keeps_file_option(alloc))
 }
 
 /// The subcommand `transcript`.
@@ -150,19 +180,28 @@ fn transcript_command<'a>(alloc: Global) -> Result<Command<'a>, AllocError>
     )
 }
 
-/// The subcommand `sample`, which takes a file, numbers, flags and a text.
+/// The subcommand `sample`, which takes a file, numbers, flags and texts.
 fn sample_command<'a>(alloc: Global) -> Result<Command<'a>, AllocError>
     ensures app { IfOk result (λ command. app_of command ≡ sample_app) }
+    ensures local { IfOk result (λ command. (out-Command command).has_globals ≡ false) }
+{
+    let sample = sampling_command(alloc)?;
+    let with_task = sample.arg(keeps_option(
+        alloc,
+        "Says by how many schedules one of these lines doesn't hold for each process that has decided, after each decision of the room's history, as in 'mine == min; mine == max': conditions as of `bgview outcomes --keeps`; lists no outcome",
+    ))?;
+    with_task.arg(keeps_file_option(alloc))
+}
+
+/// The subcommand `sample` with the options that say which schedules are drawn, which outcomes are shown, and how.
+fn sampling_command<'a>(alloc: Global) -> Result<Command<'a>, AllocError>
+    ensures app { IfOk result (λ command. app_of command ≡ sampling_app) }
     ensures local { IfOk result (λ command. (out-Command command).has_globals ≡ false) }
 {
     let sample = choosing_command(alloc)?;
     let with_workers = sample.arg(workers_option(alloc))?;
     let with_json = with_workers.arg(json_option(alloc))?;
-    let with_brief = with_json.arg(brief_option(alloc, "Leaves out the scripts"))?;
-    with_brief.arg(keeps_option(
-        alloc,
-        "Says by how many schedules one of these lines doesn't hold for each process that has decided, after each decision of the room's history, as in 'mine == min; mine == max': conditions as of `bgview outcomes --keeps`; lists no outcome",
-    ))
+    with_json.arg(brief_option(alloc, "Leaves out the scripts"))
 }
 
 /// The subcommand `sample` with the options that say which schedules are drawn and which outcomes are shown.
@@ -191,7 +230,7 @@ fn drawing_command<'a>(alloc: Global) -> Result<Command<'a>, AllocError>
         alloc,
         "sample",
         "Runs each room of a file by random schedules, and counts the outcomes",
-        "bgview sample [--schedules N] [--crashes F] [--seed S] [--from K] [--workers W] [--group] [--top K] [--outcome K] [--json] [--brief] [--keeps TASK] [FILE]",
+        "bgview sample [--schedules N] [--crashes F] [--seed S] [--from K] [--workers W] [--group] [--top K] [--outcome K] [--json] [--brief] [--keeps TASK | --keeps-file TASKFILE] [FILE]",
         "The rooms; without it, standard input is read",
     )?;
     let with_schedules = sample.arg(schedules_option(alloc))?;
@@ -312,12 +351,13 @@ fn outcomes_command<'a>(alloc: Global) -> Result<Command<'a>, AllocError>
     ensures local { IfOk result (λ command. (out-Command command).has_globals ≡ false) }
 {
     let outcomes = listing_command(alloc)?;
-    let with_task = outcomes.arg(task_option(alloc))?;
-    let with_inputs = with_task.arg(inputs_option(alloc))?;
-    with_inputs.arg(keeps_option(
+    let with_flag = outcomes.arg(task_option(alloc))?;
+    let with_inputs = with_flag.arg(inputs_option(alloc))?;
+    let with_task = with_inputs.arg(keeps_option(
         alloc,
         "Judges whether one of these lines holds for each process that has decided, at each moment of each run, as in 'mine == min; mine == max': conditions of the protocol language over the decisions, with `given` for how many processes have `mine` as their input",
-    ))
+    ))?;
+    with_task.arg(keeps_file_option(alloc))
 }
 
 /// The subcommand `outcomes` with the options that say which runs are searched, which outcomes are shown, and how.
@@ -358,11 +398,18 @@ fn searching_command<'a>(alloc: Global) -> Result<Command<'a>, AllocError>
         alloc,
         "outcomes",
         "Searches all runs of each room's protocol, or all schedules of its simulators, and lists all outcomes",
-        "bgview outcomes [--rooms] [--crashes F] [--nodes N] [--top K] [--outcome K] [--json] [--brief] [--task] [--inputs A,B,..] [--keeps TASK] [FILE]",
-        "The rooms; without it, standard input is read",
+        "bgview outcomes [--rooms] [--open] [--crashes F] [--nodes N] [--top K] [--outcome K] [--json] [--brief] [--task] [--inputs A,B,..] [--keeps TASK | --keeps-file TASKFILE] [FILE]",
+        "The rooms, or with --open the script; without it, standard input is read",
     )?;
     let with_rooms = outcomes.arg(rooms_option(alloc))?;
-    let with_crashes = with_rooms.arg(stopped_option(alloc))?;
+    let with_open = with_rooms.arg(open_option(
+        alloc,
+        "Plays a script, and says after each command which outcomes the simulators of its room can still reach, and which they no longer can",
+    ))?;
+    let with_crashes = with_open.arg(stopped_option(
+        alloc,
+        "How many processes stop in a run at most, 0 to 16, or with --rooms or --open how many simulators crash; without it, all but one",
+    ))?;
     with_crashes.arg(nodes_option(alloc))
 }
 
@@ -379,8 +426,8 @@ fn rooms_option<'a>(alloc: Global) -> Arg<'a>
         )
 }
 
-/// The option `--crashes F` of `outcomes`.
-fn stopped_option<'a>(alloc: Global) -> Arg<'a>
+/// The option `--crashes F` of `outcomes` and `page`.
+fn stopped_option<'a>(alloc: Global, help: &'a str) -> Arg<'a>
     ensures rule { rule_of result ≡ stopped_rule }
     ensures local { result.global ≡ false }
 {
@@ -388,9 +435,7 @@ fn stopped_option<'a>(alloc: Global) -> Arg<'a>
         .long("crashes")
         .value_name("F")
         .value_parser(value_parser!(u8).range(0..=16))
-        .help(
-            "How many processes stop in a run at most, 0 to 16, or with --rooms how many simulators crash; without it, all but one",
-        )
+        .help(help)
 }
 
 /// The option `--nodes N`.
@@ -453,6 +498,17 @@ fn keeps_option<'a>(alloc: Global, help: &'a str) -> Arg<'a>
         .help(help)
 }
 
+/// The option `--keeps-file TASKFILE`.
+fn keeps_file_option<'a>(alloc: Global) -> Arg<'a>
+    ensures rule { rule_of result ≡ keeps_file_rule }
+    ensures local { result.global ≡ false }
+{
+    Arg::new(alloc, "keeps-file")
+        .long("keeps-file")
+        .value_name("TASKFILE")
+        .help("As --keeps, with the lines of this file; can't be given together with --keeps")
+}
+
 /// The subcommand `lint`.
 fn lint_command<'a>(alloc: Global) -> Result<Command<'a>, AllocError>
     ensures app { IfOk result (λ command. app_of command ≡ telling_app (codes "lint")) }
@@ -467,7 +523,7 @@ fn lint_command<'a>(alloc: Global) -> Result<Command<'a>, AllocError>
     )
 }
 
-/// The subcommand `grade`, which takes a file, a goal, a number and a text.
+/// The subcommand `grade`, which takes a file, a goal, a number and two texts.
 fn grade_command<'a>(alloc: Global) -> Result<Command<'a>, AllocError>
     ensures app { IfOk result (λ command. app_of command ≡ grade_app) }
     ensures local { IfOk result (λ command. (out-Command command).has_globals ≡ false) }
@@ -476,15 +532,16 @@ fn grade_command<'a>(alloc: Global) -> Result<Command<'a>, AllocError>
         alloc,
         "grade",
         "Plays a script, and says whether its last report satisfies a goal",
-        "bgview grade --goal GOAL [--commands N] [--keeps TASK] [FILE]",
+        "bgview grade --goal GOAL [--commands N] [--keeps TASK | --keeps-file TASKFILE] [FILE]",
         "The script; without it, standard input is read",
     )?;
     let with_goal = grade.arg(goal_option(alloc))?;
     let with_commands = with_goal.arg(commands_option(alloc))?;
-    with_commands.arg(keeps_option(
+    let with_task = with_commands.arg(keeps_option(
         alloc,
         "Judges whether one of these lines holds for each process that has decided, after each decision of a room's history, whenever a command was done, as in 'mine == min; mine == max': conditions as of `bgview outcomes --keeps`",
-    ))
+    ))?;
+    with_task.arg(keeps_file_option(alloc))
 }
 
 /// The option `--goal GOAL`.

@@ -26,10 +26,11 @@ use Rattle.room_core.proofs.CallerLemmasOnSpecs.{same_spec}
 use Rattle.run_search.specs.declared.ended.Ended.{Ended}
 use Rattle.room_search.specs.declared.reached.Reached.{Reached}
 use Rattle.room_search.specs.Nodes.{CoverAllRooms, IsIn, Node}
-use Rattle.room_search.specs.Reaching.{IsFound, IsReachable, outcome_of}
+use Rattle.room_search.specs.Reaching.{IsFound, IsOpen, IsReachable, outcome_of}
 use Rattle.room_search.specs.Resting.{is_unresolved, waits}
 use Rattle.room_search.specs.Ends.{AreEndsFound}
 use Rattle.room_search.specs.Taking.{AreAmong, IsTaken, MayRest}
+use Rattle.room_search.proofs.Going.{settles_on}
 
 -- ---- a mind that is settled rests
 
@@ -68,13 +69,13 @@ module _ (room : RoomState) (fields : Fields) (limits : IsWithinLimits room.spec
 -- ---- the outcome of each room is found
 
 -- a simulator for which each process is settled may rest in a node that has the room
-rest_in : (spec : RoomSpec) (table : List Knowledge) (node : Node) (room : RoomState) (fields : Fields) (i : ℕ) → IsWithinLimits room.spec → room.spec ≡ spec → AreFieldsOf room fields → IsIn table node (configuration_of room) → i < spec.simulators
+rest_in : (spec : RoomSpec) (table : List Knowledge) (node : Node) (room : RoomState) (fields : Fields) (i : ℕ) → IsWithinLimits room.spec → room.spec ≡ spec → AreFieldsOf room fields → IsIn table node (configuration_of room) → i < spec.simulators → fields.crashed i ≡ false
     → ((j : ℕ) → j < processes spec → IsSettledInMind spec fields i j) → MayRest spec table node i
-rest_in spec table node room fields i limits is are here below settled =
+rest_in spec table node room fields i limits is are here below alive settled =
     let inside : i < room.spec.simulators = subst (λ (s : RoomSpec). i < s.simulators) (sym is) below in
     let list = (mind_at (configuration_of room) i).goals in (
       knowledge_of (mind_at (configuration_of room) i),
-      here.each i inside,
+      here.each i inside ((agree room fields limits are).crashed i inside ∙ alive),
       λ j process.
           subst (λ (s : RoomSpec). waits s node.words j (goal_at list j) ≡ true) is
           (subst (λ (w : List ℕ). waits room.spec w j (goal_at list j) ≡ true) (sym here.words)
@@ -86,10 +87,11 @@ abbrev pub Settles : Type 0
 Settles = (room : RoomState) (fields : Fields) → IsWithinLimits room.spec → AreFieldsOf room fields → (left : HasTurnLeft room.spec (fields_after_settle room.spec fields)) → (j : ℕ) → j < processes room.spec
     → IsSettledInMind room.spec (fields_after_settle room.spec fields) left.simulator j
 
-pub found_all : (spec : RoomSpec) (crashes : ℕ) (table : List Knowledge) (nodes : List Node) (done : List (Vec ℕ)) (outcomes : List Reached) → IsWithinLimits spec → Settles → CoverAllRooms spec table nodes
+pub found_all : (spec : RoomSpec) (crashes : ℕ) (start : RoomState) (table : List Knowledge) (nodes : List Node) (done : List (Vec ℕ)) (outcomes : List Reached) → IsWithinLimits spec → Settles → CoverAllRooms (configuration_of start) table nodes
     → ((node : Node) → Contains nodes node → IsTaken spec crashes table done node) → ((words : List ℕ) → AreAmong done words → AreEndsFound spec outcomes words)
-    → (outcome : List Ended) → IsReachable spec crashes outcome → IsFound outcomes outcome
-found_all spec crashes table nodes done outcomes limits settles covers taken runs outcome is =
+    → (outcome : List Ended) → IsOpen start spec crashes outcome → IsFound outcomes outcome
+found_all spec crashes start table nodes done outcomes limits settles covers taken runs outcome opened =
+    let is : IsReachable spec crashes outcome = opened.reachable in
     let room = is.room in
     let room_limits : IsWithinLimits room.spec = subst IsWithinLimits (sym is.of_room) limits in
     let after = room_after_settle room in
@@ -97,11 +99,11 @@ found_all spec crashes table nodes done outcomes limits settles covers taken run
     let after_is : after.spec ≡ spec = same_spec room Settle ∙ is.of_room in
     let are : AreFieldsOf after fields = subst (λ (s : RoomSpec). AreFieldsOf after (fields_after_settle s is.fields)) is.of_room (calls_in_fields room is.fields (Settle ∷ []) room_limits is.are).1 in
     let after_limits : IsWithinLimits after.spec = subst IsWithinLimits (sym after_is) limits in
-    let covered = covers (configuration_of after) after_is are.run in
+    let covered = covers (configuration_of after) (settles_on (configuration_of start) room room_limits is.are.run opened.goes_on) in
     let node = covered.0 in
     let here = covered.2 in
     let rests : (i : ℕ) → i < spec.simulators → fields.crashed i ≡ false → MayRest spec table node i = λ i below alive.
-    rest_in spec table node after fields i after_limits after_is are here below
+    rest_in spec table node after fields i after_limits after_is are here below alive
     (λ j process.
     subst (λ (s : RoomSpec). IsSettledInMind s (fields_after_settle s is.fields) i j) is.of_room
     (settles room is.fields room_limits is.are

@@ -3,6 +3,7 @@ mod Growing
 mod Sets
 mod Same
 mod Covering
+mod Going
 mod Searching
 mod Ending
 mod Completing
@@ -10,3 +11,5 @@ mod Taken
 mod Finding
 mod Said
 mod Noting
+mod Scheduling
+mod OneByOne

@@ -1,10 +1,10 @@
 -- One room more is run, and one node more is taken.
-use Rattle.std.proofs.Common.{◌≡◌, ℕ, ◌+◌, ◌<◌, get_or, inl, inr, true, List, [], ◌∷◌, ◌++◌, length, filter, Option, None, is_none, sym, ap, ◌∙◌, subst, arith}
+use Rattle.std.proofs.Common.{◌≡◌, ℕ, ◌+◌, ◌<◌, ◌≤◌, get_or, inl, inr, true, List, [], ◌∷◌, ◌++◌, length, filter, Option, None, is_none, sym, ap, ◌∙◌, subst, arith}
 use Rattle.std.specs.Global.{Vec}
 use Rattle.std.specs.List.{count_by, range_with_len}
 use Rattle.std.proofs.lemmas.Bool.{cases_Bool, cases_eq}
 use Rattle.std.proofs.lemmas.List.{get_or_append_left, get_or_push}
-use Rattle.room_spec.specs.Rooms.{IsWithinLimits, RoomSpec}
+use Rattle.room_spec.specs.Rooms.{IsWithinLimits, RoomSpec, processes}
 use Rattle.simulator.specs.declared.knowledge.Knowledge.{Knowledge}
 use Rattle.room_core.specs.Calls.{RoomState}
 use Rattle.room_core.specs.Fields.{Fields}
@@ -12,14 +12,17 @@ use Rattle.room_core.specs.Reading.{AreFieldsOf}
 use Rattle.ws_history.specs.Reports.{report_of, states_of}
 use Rattle.ws_history.specs.declared.states.ProcessState.{ProcessState}
 use Rattle.room_outcomes.specs.Ends.{ends_of}
-use Rattle.room_sample.specs.Schedules.{IsOutcome, IsSettledAfter}
+use Rattle.room_outcomes.proofs.CallerLemmas.{reported_outcome}
+use Rattle.room_sample.specs.Schedules.{IsSchedule, crashes_in}
 use Rattle.room_sample.specs.declared.stretch.Stretch.{Stretch}
-use Rattle.room_sample.proofs.CallerLemmas.{HasFields, settled_fields}
 use Rattle.room_search.specs.declared.reached.Reached.{Reached}
 use Rattle.room_search.specs.Nodes.{Node}
-use Rattle.room_search.specs.Reaching.{IsFound, IsReachedBy}
+use Rattle.run_search.specs.Outcomes.{IsRunOutcome}
+use Rattle.room_search.specs.Beginnings.{crash_count}
+use Rattle.room_search.specs.Reaching.{IsFound, IsReachedFrom, settled_from}
 use Rattle.room_search.specs.Ends.{AreEndsFound}
-use Rattle.room_search.specs.Taking.{AreAmong, Includes, IsTaken, MayRest}
+use Rattle.room_search.specs.Taking.{AreAmong, Includes, IsSettledFrom, IsTaken, MayRest}
+use Rattle.room_search.proofs.Going.{settled_spec}
 use Rattle.room_search.proofs.Ending.{ends_same, few_missing, missing_is}
 
 -- ---- a room that was run
@@ -27,25 +30,32 @@ use Rattle.room_search.proofs.Ending.{ends_same, few_missing, missing_is}
 abbrev pub IsRead : RoomState → List ProcessState → Type 0
 IsRead room states = (fields : Fields) → AreFieldsOf room fields → states ≡ states_of room.spec fields
 
-pub room_outcome : (spec : RoomSpec) (crashes : ℕ) (schedule : List Stretch) (room : RoomState) (states : List ProcessState) → IsSettledAfter spec crashes schedule room → IsRead room states → IsOutcome spec crashes schedule states
-room_outcome spec crashes schedule room states settled read = record {
-  may_come = settled.may_come;
-  few = settled.few;
-  reported = subst (λ (r : RoomState). (fields : Fields) → AreFieldsOf r fields → states ≡ (report_of r.spec fields).states.items) settled.room_is read;
+pub room_reached : (start : RoomState) (crashes : ℕ) (room : RoomState) (one other : Reached) → IsSettledFrom start crashes one.schedule.items room → IsRead room one.states.items → other.states ≡ one.states → other.schedule ≡ one.schedule → IsReachedFrom start crashes other
+room_reached start crashes room one other settled read states schedule = record {
+  may_come = subst (λ s. IsSchedule start s.items) (sym schedule) settled.may_come;
+  few = subst (λ s. crash_count start + crashes_in s.items ≤ crashes) (sym schedule) settled.few;
+  reported = subst (λ s. (fields : Fields) → AreFieldsOf (settled_from start s.items) fields → other.states.items ≡ (report_of (settled_from start s.items).spec fields).states.items) (sym schedule)
+      (subst (λ s. (fields : Fields) → AreFieldsOf (settled_from start one.schedule.items) fields → s.items ≡ (report_of (settled_from start one.schedule.items).spec fields).states.items) (sym states)
+      (subst (λ (r : RoomState). (fields : Fields) → AreFieldsOf r fields → one.states.items ≡ (report_of r.spec fields).states.items) settled.room_is read));
 }
 
-pub room_found : (spec : RoomSpec) (crashes : ℕ) (schedule : List Stretch) (room : RoomState) (outcomes : List Reached) (states : List ProcessState) → IsWithinLimits spec → IsSettledAfter spec crashes schedule room → IsRead room states → IsFound outcomes (ends_of states)
-    → AreEndsFound spec outcomes room.words
-room_found spec crashes schedule room outcomes states limits settled read found = λ other fields is are same_words.
-    let here : HasFields spec room = subst (HasFields spec) (sym settled.room_is) (settled_fields spec schedule limits) in (
-      found.0,
-      found.1,
-      ends_same spec other room fields here.fields limits is here.same same_words are here.are ∙ ap (λ (s : RoomSpec). ends_of (states_of s here.fields)) (sym here.same) ∙ ap ends_of (sym (read here.fields here.are)) ∙ found.2,
-    )
+-- the room has the spec of the start
+pub spec_from : (spec : RoomSpec) (start : RoomState) (crashes : ℕ) (schedule : List Stretch) (room : RoomState) → start.spec ≡ spec → IsSettledFrom start crashes schedule room → room.spec ≡ spec
+spec_from spec start crashes schedule room same settled = ap (λ (r : RoomState). r.spec) settled.room_is ∙ settled_spec start schedule ∙ same
 
-pub reached_same : (spec : RoomSpec) (crashes : ℕ) (one other : Reached) → other.states ≡ one.states → other.schedule ≡ one.schedule → IsReachedBy spec crashes one → IsReachedBy spec crashes other
-reached_same spec crashes one other states schedule is =
-    subst (λ s. IsOutcome spec crashes s.items other.states.items) (sym schedule) (subst (λ s. IsOutcome spec crashes one.schedule.items s.items) (sym states) is)
+pub room_found : (spec : RoomSpec) (room : RoomState) (fields : Fields) (outcomes : List Reached) (states : List ProcessState) → IsWithinLimits spec → room.spec ≡ spec → AreFieldsOf room fields → IsRead room states → IsFound outcomes (ends_of states)
+    → AreEndsFound spec outcomes room.words
+room_found spec room fields outcomes states limits same are read found = λ other others is are_others same_words. (
+  found.0,
+  found.1,
+  ends_same spec other room others fields limits is same same_words are_others are ∙ ap (λ (s : RoomSpec). ends_of (states_of s fields)) (sym same) ∙ ap ends_of (sym (read fields are)) ∙ found.2,
+)
+
+-- and its outcome is one of a run of the protocol
+pub room_among : (spec : RoomSpec) (room : RoomState) (fields : Fields) (states : List ProcessState) → IsWithinLimits spec → room.spec ≡ spec → AreFieldsOf room fields → IsRead room states → IsRunOutcome spec (processes spec) (ends_of states)
+room_among spec room fields states limits same are read =
+    subst (IsRunOutcome spec (processes spec)) (ap ends_of (sym (read fields are)))
+    (subst (λ (s : RoomSpec). IsRunOutcome s (processes s) (ends_of (states_of room.spec fields))) same (reported_outcome room fields (subst IsWithinLimits (sym same) limits) are))
 
 -- ---- a node that is taken
 

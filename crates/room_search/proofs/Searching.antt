@@ -1,20 +1,18 @@
 -- A search goes on, node by node.
-use Rattle.std.proofs.Common.{◌≡◌, ℕ, ◌+◌, ◌<◌, true, ltb, List, [], ◌∷◌, ◌++◌, length, get_or, Some, refl, sym, ap, ◌∙◌, subst, arith, inl, inr}
+use Rattle.std.proofs.Common.{◌≡◌, ℕ, ◌+◌, ◌<◌, true, false, ltb, List, [], ◌∷◌, ◌++◌, length, get_or, Some, refl, sym, ap, ◌∙◌, subst, arith, inl, inr}
 use Rattle.std.specs.Prelude.{slice_get}
 use Rattle.std.specs.List.{Contains}
 use Rattle.std.proofs.lemmas.Bool.{cases_eq, cases_lt, ltb-true}
 use Rattle.std.proofs.lemmas.List.{get_or_append_left, get_or_push, length_push}
 use Rattle.std.proofs.lemmas.List.Elements.{Contains-append_left}
-use Rattle.std.proofs.lemmas.List.FromFn.{get_or-map-range_with_len}
 use Rattle.std.proofs.lemmas.Option.{get_or_from_slice_get, same_Some, slice_get-get_or, slice_get_within}
 use Rattle.room_spec.specs.Rooms.{RoomSpec}
 use Rattle.transcript.proofs.CallerLemmas.{slice_get-append, slice_get-push}
 use Rattle.simulator.specs.declared.knowledge.Knowledge.{Knowledge}
 use Rattle.simulator.specs.Knowing.{knowledge_of}
-use Rattle.simulator.specs.Minds.{MindState, opening_mind}
-use Rattle.room_core.specs.Rooms.{Configuration, mind_at, opening}
+use Rattle.room_core.specs.Rooms.{Configuration, crashed_at, mind_at}
 use Rattle.room_search.specs.declared.stepping.Stepped.{Stepped}
-use Rattle.room_search.specs.Nodes.{AreNodes, AreNumbers, AreSetsAfter, Grows, IsAfter, IsBelow, IsIn, IsNode, Leads, LeadsAt, LeadsInside, MayKnow, Node, set_of}
+use Rattle.room_search.specs.Nodes.{AreNodes, AreNumbers, AreSetsAfter, Grows, HaveRoom, IsAfter, IsBelow, IsIn, IsNode, Leads, LeadsAt, LeadsInside, MayKnow, Node, set_of}
 use Rattle.room_search.specs.Searches.{IsMade}
 use Rattle.room_search.specs.Steps.{AreWords, HasStep, IsStepOf, known_after}
 use Rattle.room_search.proofs.Sets.{at_index, node_grown, numbers_grown}
@@ -39,7 +37,7 @@ knows_before spec old new node i known is below grown may = record {
 }
 
 pub in_grown : (old new : List Knowledge) (node : Node) (room : Configuration) → Grows old new → IsIn old node room → IsIn new node room
-in_grown old new node room grown is = record { words = is.words; each = λ i below. knows_grown old new node i (knowledge_of (mind_at room i)) grown (is.each i below) }
+in_grown old new node room grown is = record { words = is.words; each = λ i below alive. knows_grown old new node i (knowledge_of (mind_at room i)) grown (is.each i below alive) }
 
 pub nodes_grown : (spec : RoomSpec) (old new : List Knowledge) (nodes : List Node) → Grows old new → AreNodes spec old nodes → AreNodes spec new nodes
 nodes_grown spec old new nodes grown are index node there = node_grown spec old new node grown (are index node there)
@@ -63,6 +61,9 @@ nodes_kept old new index node grown there =
 
 pub node_kept : (old new : List Node) (node : Node) → Grows old new → Contains old node → Contains new node
 node_kept old new node grown there = subst (λ (l : List Node). Contains l node) (sym grown.1) (Contains-append_left old grown.0 node there)
+
+pub room_grown : (old new : List Knowledge) (nodes more : List Node) (room : Configuration) → Grows old new → Grows nodes more → HaveRoom old nodes room → HaveRoom new more room
+room_grown old new nodes more room grown nodes_grow have = (have.0, node_kept nodes more have.0 nodes_grow have.1, in_grown old new have.0 room grown have.2)
 
 -- ---- a step leads on, whatever is added
 
@@ -133,65 +134,62 @@ made_of spec table node to i number stepped sets below words_are sets_are are th
   others = λ q inside apart other among. subst (λ (l : List (List ℕ)). Contains (get_or l q []) other) (sym sets_are) (after.others q inside apart other among);
 }
 
--- ---- the opening room
+-- ---- the first room
 
--- the sets of the first simulators in the node of the opening room
-pub record AreFirstSets (spec : RoomSpec) (table : List Knowledge) (count : ℕ) (sets : List (List ℕ)) : Type 0 where
+-- a set of the node of a room: it has what the simulator knows, unless that has crashed
+abbrev pub HasOwn : List Knowledge → Configuration → ℕ → List ℕ → Type 0
+HasOwn table room i set = crashed_at room i ≡ false → (number : ℕ) × Contains set number × (slice_get table number ≡ Some (knowledge_of (mind_at room i)))
+
+-- the sets of the first simulators in the node of a room
+pub record AreFirstSets (room : Configuration) (table : List Knowledge) (count : ℕ) (sets : List (List ℕ)) : Type 0 where
   pub width : length sets ≡ count
   pub numbers : (i : ℕ) → i < count → AreNumbers table (get_or sets i [])
-  pub known : (i : ℕ) → i < count → (number : ℕ) × Contains (get_or sets i []) number × (slice_get table number ≡ Some (knowledge_of (opening_mind spec i)))
+  pub known : (i : ℕ) → i < count → HasOwn table room i (get_or sets i [])
 
-pub first_none : (spec : RoomSpec) (table : List Knowledge) (sets : List (List ℕ)) → sets ≡ [] → AreFirstSets spec table 0 sets
-first_none spec table sets none = record {
+pub first_none : (room : Configuration) (table : List Knowledge) (sets : List (List ℕ)) → sets ≡ [] → AreFirstSets room table 0 sets
+first_none room table sets none = record {
   width = ap (λ (l : List (List ℕ)). length l) none;
   numbers = λ i below. absurd (omega (arith, below));
   known = λ i below. absurd (omega (arith, below));
 }
 
-pub first_more : (spec : RoomSpec) (old new : List Knowledge) (count : ℕ) (sets after : List (List ℕ)) (set : List ℕ) (number : ℕ) → after ≡ sets ++ set ∷ [] → Grows old new → AreNumbers new set → Contains set number → slice_get new number ≡ Some (knowledge_of (opening_mind spec count))
-    → AreFirstSets spec old count sets → AreFirstSets spec new (count + 1) after
-first_more spec old new count sets after set number is grown numbers there known before =
+pub first_more : (room : Configuration) (old new : List Knowledge) (count : ℕ) (sets after : List (List ℕ)) (set : List ℕ) → after ≡ sets ++ set ∷ [] → Grows old new → AreNumbers new set → HasOwn new room count set
+    → AreFirstSets room old count sets → AreFirstSets room new (count + 1) after
+first_more room old new count sets after set is grown numbers own before =
     let last : get_or (sets ++ set ∷ []) count [] ≡ set = get_or_push sets set [] count before.width in
     let earlier : (i : ℕ) → i < count → get_or (sets ++ set ∷ []) i [] ≡ get_or sets i [] = λ i below. get_or_append_left sets (set ∷ []) [] i (let width = before.width in omega (arith, below, width)) in
-    subst (AreFirstSets spec new (count + 1)) (sym is) (record {
+    subst (AreFirstSets room new (count + 1)) (sym is) (record {
       width = let long = length_push sets set in let width = before.width in omega (arith, long, width);
       numbers = λ i below. elim (cases_eq i count) [
         | inl same ↦ subst (λ (k : ℕ). AreNumbers new (get_or (sets ++ set ∷ []) k [])) (sym same) (subst (AreNumbers new) (sym last) numbers)
         | inr apart ↦ let less : i < count = omega (arith, below, apart) in subst (AreNumbers new) (sym (earlier i less)) (numbers_grown old new (get_or sets i []) grown (before.numbers i less))
       ];
       known = λ i below. elim (cases_eq i count) [
-        | inl same ↦ (
-          number,
-          subst (λ (k : ℕ). Contains (get_or (sets ++ set ∷ []) k []) number) (sym same) (subst (λ (l : List ℕ). Contains l number) (sym last) there),
-          known ∙ ap (λ (k : ℕ). Some (knowledge_of (opening_mind spec k))) (sym same),
-        )
-        | inr apart ↦
+        | inl same ↦ subst (λ (k : ℕ). HasOwn new room k (get_or (sets ++ set ∷ []) k [])) (sym same) (subst (HasOwn new room count) (sym last) own)
+        | inr apart ↦ λ alive.
             let less : i < count = omega (arith, below, apart) in
-            let had = before.known i less in
-            (had.0, subst (λ (l : List ℕ). Contains l had.0) (sym (earlier i less)) had.1, known_grown old new had.0 (knowledge_of (opening_mind spec i)) grown had.2)
+            let had = before.known i less alive in
+            (had.0, subst (λ (l : List ℕ). Contains l had.0) (sym (earlier i less)) had.1, known_grown old new had.0 (knowledge_of (mind_at room i)) grown had.2)
       ];
     })
 
-pub first_is : (spec : RoomSpec) (table : List Knowledge) (node : Node) (sets : List (List ℕ)) → AreWords spec node.words → node.sets ≡ sets → AreFirstSets spec table spec.simulators sets → IsNode spec table node
-first_is spec table node sets are sets_are first = record {
+pub first_is : (spec : RoomSpec) (room : Configuration) (table : List Knowledge) (node : Node) (sets : List (List ℕ)) → AreWords spec node.words → node.sets ≡ sets → AreFirstSets room table spec.simulators sets → IsNode spec table node
+first_is spec room table node sets are sets_are first = record {
   words = are;
   width = ap (λ (l : List (List ℕ)). length l) sets_are ∙ first.width;
   numbers = λ i below. subst (λ (l : List (List ℕ)). AreNumbers table (get_or l i [])) (sym sets_are) (first.numbers i below);
 }
 
-opening_at : (spec : RoomSpec) (i : ℕ) → i < spec.simulators → mind_at (opening spec) i ≡ opening_mind spec i
-opening_at spec i below = get_or-map-range_with_len (opening_mind spec) 0 spec.simulators i i (opening_mind spec i) (omega (arith, below)) (omega arith)
-
-pub first_in : (spec : RoomSpec) (table : List Knowledge) (node : Node) (sets : List (List ℕ)) → node.words ≡ (opening spec).words → node.sets ≡ sets → AreFirstSets spec table spec.simulators sets → IsIn table node (opening spec)
-first_in spec table node sets words_are sets_are first = record {
+pub first_in : (room : Configuration) (table : List Knowledge) (node : Node) (sets : List (List ℕ)) → node.words ≡ room.words → node.sets ≡ sets → AreFirstSets room table room.spec.simulators sets → IsIn table node room
+first_in room table node sets words_are sets_are first = record {
   words = words_are;
-  each = λ i below.
-      let had = first.known i below in
-      subst (λ (m : MindState). MayKnow table node i (knowledge_of m)) (sym (opening_at spec i below)) (record {
+  each = λ i below alive.
+      let had = first.known i below alive in
+      record {
         number = had.0;
         there = subst (λ (l : List (List ℕ)). Contains (get_or l i []) had.0) (sym sets_are) had.1;
         is = had.2;
-      });
+      };
 }
 
 pub no_nodes : (spec : RoomSpec) (table : List Knowledge) (nodes : List Node) → nodes ≡ [] → AreNodes spec table nodes

@@ -1,4 +1,6 @@
 pub mod Steps
+pub mod Beginnings
+pub mod Continuing
 pub mod Nodes
 pub mod Searches
 pub mod Resting

@@ -1,10 +1,11 @@
 -- Nodes: many rooms at once, those with the same words.
-use Rattle.std.specs.Prelude.{◌≡◌, ℕ, ◌<◌, List, [], ◌++◌, length, Some, slice_get, slice_index_or}
+use Rattle.std.specs.Prelude.{◌≡◌, ℕ, ◌<◌, false, List, [], ◌++◌, length, Some, slice_get, slice_index_or}
 use Rattle.std.specs.List.{Contains}
 use Rattle.room_spec.specs.Rooms.{RoomSpec}
 use Rattle.simulator.specs.declared.knowledge.Knowledge.{Knowledge}
 use Rattle.simulator.specs.Knowing.{knowledge_of}
-use Rattle.room_core.specs.Rooms.{Configuration, IsOneInterleaving, mind_at, opening}
+use Rattle.room_core.specs.Rooms.{Configuration, crashed_at, mind_at}
+use Rattle.room_search.specs.Continuing.{Continues}
 use Rattle.room_search.specs.Steps.{AreWords, HasStep, IsKnowledge, known_after, words_after}
 
 -- The words of a room, and for each simulator numbers of what it may know while they stay so. A number is a place in a table.
@@ -21,10 +22,10 @@ pub record MayKnow (table : List Knowledge) (node : Node) (i : ℕ) (known : Kno
   pub there : Contains (set_of node i) number
   pub is : slice_get table number ≡ Some known
 
--- the room is one of those of the node
+-- The room is one of those of the node. What its crashed simulators know makes no difference.
 pub record IsIn (table : List Knowledge) (node : Node) (room : Configuration) : Type 0 where
   pub words : node.words ≡ room.words
-  pub each : (i : ℕ) → i < room.spec.simulators → MayKnow table node i (knowledge_of (mind_at room i))
+  pub each : (i : ℕ) → i < room.spec.simulators → crashed_at room i ≡ false → MayKnow table node i (knowledge_of (mind_at room i))
 
 -- A step of simulator i, from what it knows in the node, leads to this node: it has the words after the step and what the simulator knows then, and
 -- the other simulators may know what they knew.
@@ -41,14 +42,18 @@ Leads spec table nodes node i known = HasStep spec known → (to : Node) × Cont
 abbrev pub LeadsInside : RoomSpec → List Knowledge → List Node → Node → Type 0
 LeadsInside spec table nodes node = (i : ℕ) (known : Knowledge) → i < spec.simulators → MayKnow table node i known → Leads spec table nodes node i known
 
--- some node has the opening room, and no step leads out of these nodes
-pub record AreComplete (spec : RoomSpec) (table : List Knowledge) (nodes : List Node) : Type 0 where
-  pub first : (node : Node) × Contains nodes node × IsIn table node (opening spec)
+-- some node has the room
+abbrev pub HaveRoom : List Knowledge → List Node → Configuration → Type 0
+HaveRoom table nodes room = (node : Node) × Contains nodes node × IsIn table node room
+
+-- some node has the first room, and no step leads out of these nodes
+pub record AreComplete (spec : RoomSpec) (start : Configuration) (table : List Knowledge) (nodes : List Node) : Type 0 where
+  pub first : HaveRoom table nodes start
   pub closed : (i : ℕ) (node : Node) → slice_get nodes i ≡ Some node → LeadsInside spec table nodes node
 
--- each room that some list of atomic steps and crashes leads to is in one of these nodes
-abbrev pub CoverAllRooms : RoomSpec → List Knowledge → List Node → Type 0
-CoverAllRooms spec table nodes = (room : Configuration) → room.spec ≡ spec → IsOneInterleaving room → (node : Node) × Contains nodes node × IsIn table node room
+-- each room that some list of atomic steps and crashes leads to from this one is in one of these nodes
+abbrev pub CoverAllRooms : Configuration → List Knowledge → List Node → Type 0
+CoverAllRooms start table nodes = (room : Configuration) → Continues start room → HaveRoom table nodes room
 
 -- ---- how nodes are made
 

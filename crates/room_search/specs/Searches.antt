@@ -1,18 +1,15 @@
 -- A search on its way.
 use Rattle.std.specs.Prelude.{◌≡◌, ℕ, ◌<◌, List}
-use Rattle.std.specs.List.{Contains}
 use Rattle.room_spec.specs.Rooms.{RoomSpec}
 use Rattle.simulator.specs.declared.knowledge.Knowledge.{Knowledge}
-use Rattle.room_core.specs.Rooms.{opening}
 use Rattle.room_search.specs.declared.explored.Explored.{Explored}
 use Rattle.room_search.specs.declared.stepping.Stepped.{Stepped}
-use Rattle.room_search.specs.Nodes.{AreIn, AreKnowledge, AreNodes, IsIn, IsNode, MayKnow, Node, set_of}
+use Rattle.room_search.specs.Nodes.{AreIn, AreKnowledge, AreNodes, IsNode, MayKnow, Node, set_of}
 
 -- what a search has so far
 pub record IsSearched (spec : RoomSpec) (explored : Explored) : Type 0 where
   pub known : AreKnowledge spec explored.table.keys
   pub nodes : AreNodes spec explored.table.keys explored.nodes.items
-  pub first : (node : Node) × Contains explored.nodes.items node × IsIn explored.table.keys node (opening spec)
 
 -- This node comes of a step after which simulator i knows this, on these words.
 pub record IsMade (spec : RoomSpec) (table : List Knowledge) (node : Node) (i : ℕ) (stepped : Stepped) (to : Node) : Type 0 where

@@ -1,9 +1,11 @@
 //! The nodes of all schedules of a room.
-ghost use Rattle.std.specs.Prelude.{◌≡◌, ◌<◌, ◌≤◌, ◌∷◌, ◌++◌, [], ℕ, true, Some, IfOk, MatchOption, OnOk, length, slice_get};
+ghost use Rattle.std.specs.Prelude.{◌≡◌, ◌<◌, ◌≤◌, ◌∷◌, ◌++◌, [], ℕ, true, false, Some, IfOk, MatchOption, OnOk, length, slice_get};
 ghost use Rattle.std.specs.List.{Contains};
 ghost use Rattle.simulator.specs.declared.knowledge.Knowledge.{Knowledge as KnowledgeValue};
-ghost use Rattle.room_core.specs.Rooms.{opening};
-ghost use Rattle.room_search.specs.Nodes.{AreKnowledge, CoverAllRooms, Grows, IsBelow, IsIn, IsNode, Leads, LeadsAt, LeadsInside, MayKnow, Node as NodeValue, set_of};
+ghost use Rattle.room_core.specs.Calls.{configuration_of};
+ghost use Rattle.room_core.specs.Rooms.{crashed_at, mind_at};
+ghost use Rattle.simulator.specs.Knowing.{knowledge_of};
+ghost use Rattle.room_search.specs.Nodes.{AreKnowledge, CoverAllRooms, AreNumbers, Grows, HaveRoom, IsBelow, IsIn, IsNode, Leads, LeadsAt, LeadsInside, MayKnow, Node as NodeValue, set_of};
 ghost use Rattle.room_search.specs.Searches.{IsMade, IsSearched};
 ghost use Rattle.room_search.specs.Steps.{AreWords, HasStep, IsKnowledge, IsStepOf};
 
@@ -14,9 +16,7 @@ use crate::subject::Subject;
 use crate::table::{Table, has_known, numbered};
 use indexmap::{IndexMap, IndexSet};
 use run_search::{Progress, SearchFault};
-use simulator::Mind;
 use std::alloc::{AllocError, Global};
-use view_table::words;
 
 /// Nodes, the table of what simulators may know in them, and the indices of those with the same words.
 #[derive(Drop)]
@@ -26,7 +26,7 @@ pub struct Explored {
     by_words: IndexMap<Vec<u64>, Vec<usize>>,
 }
 
-/// Finds nodes that have all rooms to which schedules of a room lead, breadth first. Reports how many nodes it has searched.
+/// Finds nodes that have all rooms to which schedules lead from the start on, breadth first. Reports how many nodes it has searched.
 ///
 /// # Errors
 ///
@@ -36,11 +36,13 @@ pub fn explore<P: Progress>(
     limit: u32,
     progress: &mut P,
 ) -> Result<Explored, SearchFault>
+    requires { subject.now.start.now.spec ≡ subject.now.spec.now }
     ensures searched { IfOk result (IsSearched subject.now.spec.now) }
-    ensures covers { IfOk result (λ explored. CoverAllRooms subject.now.spec.now explored.table.keys explored.nodes.items) }
+    ensures covers { IfOk result (λ explored. CoverAllRooms (configuration_of subject.now.start.now) explored.table.keys explored.nodes.items) }
     ensures within { IfOk result (λ explored. length explored.nodes.items ≤ limit) }
 {
     let _shape = subject.spec.shape(); // for the proof: the room is within its limits
+    let _spec = subject.start.spec(); // for the proof: a schedule has led to the start
     let mut explored = opened(subject)?;
     let mut cursor = 0;
     while (cursor as usize) < explored.nodes.len() {
@@ -54,9 +56,11 @@ pub fn explore<P: Progress>(
     Ok(explored)
 }
 
-/// The node of the opening room, and no other.
+/// The node of the start, and no other.
 fn opened(subject: &Subject<'_>) -> Result<Explored, SearchFault>
-    ensures { IfOk result (IsSearched subject.now.spec.now) }
+    requires { subject.now.start.now.spec ≡ subject.now.spec.now }
+    ensures searched { IfOk result (IsSearched subject.now.spec.now) }
+    ensures start { IfOk result (λ explored. HaveRoom explored.table.keys explored.nodes.items (configuration_of subject.now.start.now)) }
 {
     let mut explored = Explored {
         table: IndexSet::new(subject.alloc),
@@ -68,18 +72,18 @@ fn opened(subject: &Subject<'_>) -> Result<Explored, SearchFault>
     Ok(explored)
 }
 
-/// The node of the opening room.
+/// The node of the start.
 fn first_node(subject: &Subject<'_>, table: &mut Table) -> Result<Node, SearchFault>
-    requires { AreKnowledge subject.now.spec.now table.old.keys }
+    requires known { AreKnowledge subject.now.spec.now table.old.keys }
+    requires same { subject.now.start.now.spec ≡ subject.now.spec.now }
     ensures known { OnOk result (AreKnowledge subject.now.spec.now table.new.keys) }
     ensures node { IfOk result (IsNode subject.now.spec.now table.new.keys) }
-    ensures opening { IfOk result (λ node. IsIn table.new.keys node (opening subject.now.spec.now)) }
+    ensures start { IfOk result (λ node. IsIn table.new.keys node (configuration_of subject.now.start.now)) }
 {
-    let words = vec![in subject.alloc; 0; words(&subject.spec.shape())]?;
+    let words = copied(subject.alloc, subject.start.words())?;
     let mut sets = Vec::new(subject.alloc);
     for i in 0..subject.spec.m() {
-        let number = numbered(table, Mind::new(subject.spec, i).knowledge())?;
-        let set = set_from(subject, table, &words, &[number])?;
+        let set = first_set(subject, table, &words, i)?;
         sets.push(set)?;
     }
     let origin = Origin {
@@ -88,6 +92,32 @@ fn first_node(subject: &Subject<'_>, table: &mut Table) -> Result<Node, SearchFa
         number: 0,
     };
     Ok(Node::new(words, sets, origin))
+}
+
+/// What simulator `i` may know at the start, and after it by steps that leave the words as they are. Nothing, if it has crashed: it takes no
+/// step.
+fn first_set(
+    subject: &Subject<'_>,
+    table: &mut Table,
+    words: &Vec<u64>,
+    i: usize,
+) -> Result<Vec<u32>, SearchFault>
+    requires known { AreKnowledge subject.now.spec.now table.old.keys }
+    requires same { subject.now.start.now.spec ≡ subject.now.spec.now }
+    requires words { AreWords subject.now.spec.now words.now.items }
+    requires simulator { i < subject.now.spec.now.simulators }
+    ensures table { OnOk result (Grows table.old.keys table.new.keys) }
+    ensures known { OnOk result (AreKnowledge subject.now.spec.now table.new.keys) }
+    ensures numbers { IfOk result (λ set. AreNumbers table.new.keys set.items) }
+    ensures own { IfOk result (λ set. crashed_at (configuration_of subject.now.start.now) i ≡ false →
+        (number : ℕ) × Contains set.items number × (slice_get table.new.keys number ≡ Some (knowledge_of (mind_at (configuration_of subject.now.start.now) i)))) }
+{
+    if subject.start.is_crashed(i) {
+        return Ok(Vec::new(subject.alloc));
+    }
+    let number = numbered(table, subject.start.mind(i).knowledge())?;
+    let set = set_from(subject, table, words, &[number])?;
+    Ok(set)
 }
 
 impl Explored {

@@ -1,4 +1,4 @@
-//! Schedules that lead to a node. Whether one leads there is seen when it is run: nothing is promised here.
+//! Schedules that lead from the start to a node. Whether one leads there is seen when it is run: nothing is promised here.
 ghost use Rattle.std.specs.Prelude.{◌<◌};
 ghost use Rattle.room_search.specs.Searches.{IsSearched};
 ghost use Rattle.room_search.specs.Steps.{AreWords};
@@ -11,7 +11,6 @@ use crate::table::number_of;
 use arrayvec::ArrayVec;
 use room_sample::Stretch;
 use room_spec::MAX_SIMULATORS;
-use simulator::Mind;
 use std::alloc::AllocError;
 
 /// The most steps that are looked for between two nodes.
@@ -28,7 +27,7 @@ struct Way {
     stretches: Vec<Stretch>,
 }
 
-/// A schedule to the node of this index, after which the simulators know what has these numbers, as far as one is found.
+/// A schedule from the start to the node of this index, after which the simulators know what has these numbers, as far as one is found.
 ///
 /// # Errors
 ///
@@ -66,7 +65,7 @@ impl Explored {
             return Ok(false);
         };
         for i in 0..subject.spec.m() {
-            if !self.go_back_alone(subject, node, i, way)? {
+            if !has_crashed(subject, i) && !self.go_back_alone(subject, node, i, way)? {
                 return Ok(false);
             }
         }
@@ -135,15 +134,15 @@ impl Explored {
         Ok(starts)
     }
 
-    /// Adds the number of what simulator `i` knows before its first step.
+    /// Adds the number of what simulator `i` knows at the start.
     fn push_opening(
         &self,
         subject: &Subject<'_>,
         i: usize,
         starts: &mut Vec<u32>,
     ) -> Result<(), AllocError> {
-        if i < subject.spec.m() {
-            if let Some(number) = number_of(&self.table, &Mind::new(subject.spec, i).knowledge()) {
+        if i < subject.start.spec().m() {
+            if let Some(number) = number_of(&self.table, &subject.start.mind(i).knowledge()) {
                 starts.push(number)?;
             }
         }
@@ -218,6 +217,11 @@ impl Explored {
         }
         Ok(number_of(&self.table, &after.known))
     }
+}
+
+/// Whether simulator `i` has crashed at the start.
+fn has_crashed(subject: &Subject<'_>, i: usize) -> bool {
+    i < subject.start.spec().m() && subject.start.is_crashed(i)
 }
 
 fn number_at(numbers: &Numbers, i: usize) -> Option<u32> {

@@ -5,11 +5,13 @@ ghost use Rattle.room_spec.specs.Rooms.{processes};
 ghost use Rattle.run_search.specs.Outcomes.{IsRunOutcome};
 ghost use Rattle.run_search.specs.declared.ended.Ended.{Ended as EndedValue};
 ghost use Rattle.room_search.specs.Nodes.{Node as NodeValue};
-ghost use Rattle.room_search.specs.Reaching.{IsFound, IsReachable, IsReachedBy, outcome_of};
+ghost use Rattle.room_search.specs.Beginnings.{begun};
+ghost use Rattle.room_search.specs.Reaching.{IsFound, IsOpen, IsReachable, IsReachedBy, IsReachedFrom, outcome_of};
 ghost use Rattle.room_search.specs.Searches.{IsSearched};
 ghost use Rattle.room_search.specs.Taking.{IsTaken, IsTaking};
 ghost use Rattle.room_search.specs.declared.reached.Reached.{Reached as ReachedValue};
 
+use crate::beginning::{Beginning, room_after};
 use crate::explored::{Explored, explore};
 use crate::reached::Reached;
 use crate::subject::Subject;
@@ -55,9 +57,48 @@ pub fn search_room<P: Progress>(
     ensures among { IfOk result (λ reach. (reached : ReachedValue) → Contains reach.outcomes.items reached → IsRunOutcome spec.now (processes spec.now) (outcome_of reached)) }
     ensures nodes { IfOk result (λ reach. reach.nodes ≤ limit) }
 {
+    let from = Beginning { spec, acts: &[] };
+    let reach = search_after(alloc, &from, crashes, limit, progress)?;
+    Ok(reach)
+}
+
+/// Finds all outcomes that the simulators of a room can still reach after what was done to it, if at most `crashes` of them crash, those
+/// counted that have crashed by then. The search is that of [`search_room`].
+///
+/// # Errors
+///
+/// `TooManyNodes` if there are more than `limit` nodes; `OutOfMemory` if an allocation fails.
+pub fn search_after<P: Progress>(
+    alloc: Global,
+    from: &Beginning<'_>,
+    crashes: u32,
+    limit: u32,
+    progress: &mut P,
+) -> Result<Reach, SearchFault>
+    // Complete: if no node was missed, each outcome that is open in the room is found.
+    ensures complete { IfOk result (λ reach. reach.missed ≡ 0 → (outcome : List EndedValue) →
+        IsOpen (begun from.now.spec.now from.now.acts.now) from.now.spec.now crashes outcome → IsFound reach.outcomes.items outcome) }
+    // Sound: the schedule of each outcome leads to it from the room, and at most `crashes` simulators have crashed then.
+    ensures sound { IfOk result (λ reach. (reached : ReachedValue) → Contains reach.outcomes.items reached →
+        IsReachedFrom (begun from.now.spec.now from.now.acts.now) crashes reached) }
+    // No outcome is found twice.
+    ensures distinct { IfOk result (λ reach. (i j : ℕ) (one other : ReachedValue) →
+        slice_get reach.outcomes.items i ≡ Some one → slice_get reach.outcomes.items j ≡ Some other → outcome_of one ≡ outcome_of other →
+        i ≡ j) }
+    // Each is an outcome of a run of the protocol, with those processes stopped that are held or going on.
+    ensures among { IfOk result (λ reach. (reached : ReachedValue) → Contains reach.outcomes.items reached →
+        IsRunOutcome from.now.spec.now (processes from.now.spec.now) (outcome_of reached)) }
+    ensures nodes { IfOk result (λ reach. reach.nodes ≤ limit) }
+{
     each_is_settled_for(); // for the proof: a simulator that has settled can go no further
-    let _shape = spec.shape(); // for the proof: the room is within its limits
-    let subject = Subject { alloc, spec };
+    let _shape = from.spec.shape(); // for the proof: the room is within its limits
+    let start = room_after(alloc, from)?;
+    let subject = Subject {
+        alloc,
+        spec: from.spec,
+        start: &start,
+        acts: from.acts,
+    };
     let explored = explore(&subject, limit, progress)?;
     let taken = take_all(&subject, &explored, crashes)?;
     let taking = taken.taking;
@@ -80,7 +121,7 @@ struct Taken {
 /// Takes the outcomes of the rooms of all nodes.
 fn take_all(subject: &Subject<'_>, explored: &Explored, crashes: u32) -> Result<Taken, AllocError>
     requires { IsSearched subject.now.spec.now explored.now }
-    ensures taking { IfOk result (λ taken. IsTaking subject.now.spec.now crashes taken.taking) }
+    ensures taking { IfOk result (λ taken. IsTaking subject.now.spec.now (begun subject.now.spec.now subject.now.acts.now) crashes taken.taking) }
     ensures all { IfOk result (λ taken. taken.missed ≡ 0 → (index : ℕ) (node : NodeValue) → slice_get explored.now.nodes.items index ≡ Some node →
         IsTaken subject.now.spec.now crashes explored.now.table.keys taken.taking.done.keys node) }
 {
@@ -103,8 +144,8 @@ fn take_first(
     taking: &mut Taking,
 ) -> Result<Vec<usize>, AllocError>
     requires searched { IsSearched subject.now.spec.now explored.now }
-    requires taking { IsTaking subject.now.spec.now crashes taking.old }
-    ensures taking { OnOk result (IsTaking subject.now.spec.now crashes taking.new) }
+    requires taking { IsTaking subject.now.spec.now (begun subject.now.spec.now subject.now.acts.now) crashes taking.old }
+    ensures taking { OnOk result (IsTaking subject.now.spec.now (begun subject.now.spec.now subject.now.acts.now) crashes taking.new) }
     ensures all { IfOk result (λ left. (index : ℕ) (node : NodeValue) → slice_get explored.now.nodes.items index ≡ Some node →
         IsTaken subject.now.spec.now crashes explored.now.table.keys taking.new.done.keys node ⊎ Contains left.items index) }
 {

@@ -1,30 +1,33 @@
 //! Outcomes, taken from one node after the other.
-ghost use Rattle.std.specs.Prelude.{◌≡◌, ◌<◌, ◌⊎◌, ℕ, IfOk, List, None, OnOk, Some, true, is_none, length, slice_get, slice_index_or};
+ghost use Rattle.std.specs.Prelude.{◌≡◌, ◌<◌, ◌⊎◌, ℕ, IfOk, IfSome, List, None, OnOk, Some, true, is_none, length, slice_get, slice_index_or};
 ghost use Rattle.std.specs.Global.{Vec as VecValue};
 ghost use Rattle.std.specs.List.{Contains, count_by};
 ghost use Rattle.room_spec.specs.Rooms.{RoomSpec};
+ghost use Rattle.room_core.specs.Calls.{RoomState};
 ghost use Rattle.room_outcomes.specs.Ends.{end_of, ends_of};
-ghost use Rattle.room_sample.specs.Schedules.{IsSettledAfter};
+ghost use Rattle.room_search.specs.Beginnings.{begun};
 ghost use Rattle.room_search.specs.Nodes.{IsNode, Node as NodeValue};
 ghost use Rattle.room_search.specs.Ends.{SayEnds};
-ghost use Rattle.room_search.specs.Reaching.{IsFound};
+ghost use Rattle.room_search.specs.Reaching.{IsFound, outcome_of};
 ghost use Rattle.room_search.specs.Searches.{IsSearched};
 ghost use Rattle.room_search.specs.Steps.{AreWords};
-ghost use Rattle.room_search.specs.Taking.{AreAmong, AreKept, Includes, IsTaken, IsTaking, MayRest};
+ghost use Rattle.room_search.specs.Taking.{AreAmong, AreKept, Includes, IsSettledFrom, IsTaken, IsTaking, MayRest};
 ghost use Rattle.room_search.specs.declared.reached.Reached.{Reached as ReachedValue};
 ghost use Rattle.run_search.specs.declared.ended.Ended.{Ended as EndedValue};
 
+use crate::beginning::{Beginning, crash_count, room_after};
 use crate::ends::ends_by_words;
 use crate::explored::Explored;
 use crate::node::Node;
 use crate::path::{Numbers, schedule_to};
 use crate::reached::Reached;
 use crate::resting::resting;
+use crate::running::settled_from;
 use crate::stepping::copied;
 use crate::subject::Subject;
 use arrayvec::ArrayVec;
 use indexmap::IndexSet;
-use room_sample::{Settled, States, Stretch, settled_after};
+use room_sample::{Settled, States, Stretch};
 use room_spec::MAX_SIMULATORS;
 use run_search::{Ended, Ends};
 use std::alloc::{AllocError, Global};
@@ -45,7 +48,7 @@ pub struct Taking {
 impl Taking {
     /// Nothing was taken so far.
     pub fn nothing(alloc: Global) -> Taking
-        ensures { (spec : RoomSpec) (crashes : ℕ) → IsTaking spec crashes result }
+        ensures { (spec : RoomSpec) (start : RoomState) (crashes : ℕ) → IsTaking spec start crashes result }
     {
         Taking {
             done: IndexSet::new(alloc),
@@ -68,8 +71,8 @@ impl Taking {
         index: usize,
     ) -> Result<bool, AllocError>
         requires searched { IsSearched subject.now.spec.now explored.now }
-        requires taking { IsTaking subject.now.spec.now crashes self.old }
-        ensures taking { OnOk result (IsTaking subject.now.spec.now crashes self.new) }
+        requires taking { IsTaking subject.now.spec.now (begun subject.now.spec.now subject.now.acts.now) crashes self.old }
+        ensures taking { OnOk result (IsTaking subject.now.spec.now (begun subject.now.spec.now subject.now.acts.now) crashes self.new) }
         ensures grown { OnOk result (Includes self.old.done.keys self.new.done.keys) }
         ensures taken { IfOk result (λ is_found. is_found ≡ true → (node : NodeValue) → slice_get explored.now.nodes.items index ≡ Some node →
             IsTaken subject.now.spec.now crashes explored.now.table.keys self.new.done.keys node) }
@@ -88,12 +91,9 @@ impl Taking {
             return Ok(true);
         }
         let schedule = schedule_of(subject, explored, index, &resting)?;
-        let settled = settled_after(
-            subject.alloc,
-            subject.spec.clone()?,
-            crashes,
-            schedule.as_slice(),
-        )?;
+        let Some(settled) = settled_by(subject, crashes, schedule.as_slice())? else {
+            return Ok(false);
+        };
         if settled.room.words() != node.words().as_slice() {
             return Ok(false);
         }
@@ -105,7 +105,7 @@ impl Taking {
     fn note_said(&mut self, subject: &Subject<'_>, words: &Vec<u64>) -> Result<bool, AllocError>
         requires words { AreWords subject.now.spec.now words.now.items }
         requires kept { AreKept self.old.ends.keys self.old.outcomes.items }
-        ensures taking { OnOk result ((crashes : ℕ) → IsTaking subject.now.spec.now crashes self.old → IsTaking subject.now.spec.now crashes self.new) }
+        ensures taking { OnOk result ((start : RoomState) (crashes : ℕ) → IsTaking subject.now.spec.now start crashes self.old → IsTaking subject.now.spec.now start crashes self.new) }
         ensures grown { OnOk result (Includes self.old.done.keys self.new.done.keys) }
         ensures there { IfOk result (λ is_found. is_found ≡ true → AreAmong self.new.done.keys words.now.items) }
     {
@@ -143,13 +143,14 @@ impl Taking {
         crashes: u32,
         settled: Settled,
     ) -> Result<(), AllocError>
-        requires settled { IsSettledAfter subject.now.spec.now crashes settled.schedule.items settled.room }
-        requires taking { IsTaking subject.now.spec.now crashes self.old }
-        ensures taking { OnOk result (IsTaking subject.now.spec.now crashes self.new) }
+        requires settled { IsSettledFrom (begun subject.now.spec.now subject.now.acts.now) crashes settled.schedule.items settled.room }
+        requires taking { IsTaking subject.now.spec.now (begun subject.now.spec.now subject.now.acts.now) crashes self.old }
+        ensures taking { OnOk result (IsTaking subject.now.spec.now (begun subject.now.spec.now subject.now.acts.now) crashes self.new) }
         ensures grown { OnOk result (Includes self.old.done.keys self.new.done.keys) }
         ensures there { OnOk result (AreAmong self.new.done.keys settled.room.words) }
     {
         let _shape = subject.spec.shape(); // for the proof: the room is within its limits
+        let _spec = settled.room.spec(); // for the proof: it has fields
         let states = process_states(&settled.room);
         let words = copied(subject.alloc, settled.room.words())?;
         self.keep(states, settled.schedule)?;
@@ -186,6 +187,26 @@ impl Taking {
         self.outcomes.push(Reached { states, schedule })?;
         Ok(())
     }
+}
+
+/// The room at the start, run by a schedule and settled. `None` if more than `crashes` simulators have crashed at the start.
+fn settled_by(
+    subject: &Subject<'_>,
+    crashes: u32,
+    schedule: &[Stretch],
+) -> Result<Option<Settled>, AllocError>
+    ensures { IfOk result (λ settled. IfSome settled (λ one. IsSettledFrom (begun subject.now.spec.now subject.now.acts.now) crashes one.schedule.items one.room)) }
+{
+    let from = Beginning {
+        spec: subject.spec,
+        acts: subject.acts,
+    };
+    let start = room_after(subject.alloc, &from)?;
+    let Some(left) = crashes.checked_sub(crash_count(&start)) else {
+        return Ok(None);
+    };
+    let settled = settled_from(subject.alloc, start, left, schedule)?;
+    Ok(Some(settled))
 }
 
 /// For each simulator the first number of what it may know in a node where it can go no further.
@@ -268,6 +289,13 @@ fn first_number(explored: &Explored, index: usize, i: usize) -> u32 {
         Some(number) => *number,
         None => 0,
     }
+}
+
+/// How the processes end in an outcome.
+pub fn ends_in(reached: &Reached) -> Ends
+    ensures { result.items ≡ outcome_of reached.now }
+{
+    ends_of(&reached.states)
 }
 
 /// How the processes end: one that is held or still going counts as stopped.

@@ -4,6 +4,7 @@ use Rattle.std.specs.Prelude.{slice_get}
 use Rattle.std.specs.Cmp.{IsEquivalence}
 use Rattle.std.specs.Cmp.Lexicographic.{pointwise}
 use Rattle.std.specs.Global.{Vec}
+use Rattle.std.specs.Int.{bit_at}
 use Rattle.std.specs.List.{Contains, position}
 use Rattle.std.specs.Map.{keys_of, values_of}
 use Rattle.std.proofs.lemmas.List.Quantifiers.{position-Some}
@@ -15,8 +16,10 @@ use Rattle.std.proofs.lemmas.List.Elements.{Contains-push, Contains-push_cases}
 use Rattle.std.proofs.lemmas.Option.{get_or_from_slice_get, same_Some, slice_get-get_or, slice_get_within}
 use Rattle.room_spec.specs.Rooms.{RoomSpec, processes}
 use Rattle.transcript.proofs.CallerLemmas.{slice_get-append, slice_get-push}
+use Rattle.run_search.specs.declared.explored.Entry.{Entry}
 use Rattle.run_search.specs.declared.local_state.LocalState.{LocalState}
-use Rattle.run_search.specs.Limits.{AreApart, AreListed, AreTooMany, CoversMore, IsAfter, IsListed, IsNotBelow, LacksAfter, Rows, indices_at}
+use Rattle.run_search.specs.Limits.{AreApart, AreListed, AreTooMany, CoversMore, HasMarks, IsAfter, IsListed, IsNodeListed, IsNotBelow, LacksAfter, Rows, entries_at, no_entry}
+use Rattle.run_search.specs.Marks.{AreMarksOf}
 use Rattle.run_search.specs.Nodes.{AreGathered, Covers, IsNext, IsWhole, Node, set_of}
 use Rattle.run_search.specs.States.{blank}
 use Rattle.run_search.proofs.Covering.{node_at, row_covered}
@@ -93,15 +96,18 @@ apart_first spec node i j earlier later before earlier_is later_is =
     let inside = slice_get_within (node ∷ []) j later later_is in
     absurd (omega (arith, before, inside))
 
-pub listed_more : (old new : Rows) (nodes : List Node) (to : Node) → AreListed old nodes → IsListed new to.row (length nodes) → ((other : List (Option ℕ)) (i : ℕ) → IsListed old other i → IsListed new other i) → AreListed new (nodes ++ to ∷ [])
+listed_on : (old new : Rows) (i : ℕ) (node : Node) → IsNodeListed old i node → ((other : List (Option ℕ)) (entry : Entry) → IsListed old other entry → IsListed new other entry) → IsNodeListed new i node
+listed_on old new i node listed kept = record { marks = listed.marks; listed = kept node.row (record { index = i; marks = listed.marks }) listed.listed; has = listed.has }
+
+pub listed_more : (old new : Rows) (nodes : List Node) (to : Node) → AreListed old nodes → IsNodeListed new (length nodes) to → ((other : List (Option ℕ)) (entry : Entry) → IsListed old other entry → IsListed new other entry) → AreListed new (nodes ++ to ∷ [])
 listed_more old new nodes to listed there kept i node is = elim (cases_lt i (length nodes)) [
-  | inl below ↦ kept node.row i (listed i node (sym (slice_get-append nodes (to ∷ []) i below) ∙ is))
+  | inl below ↦ listed_on old new i node (listed i node (sym (slice_get-append nodes (to ∷ []) i below) ∙ is)) kept
   | inr past ↦
       let inside = slice_get_within (nodes ++ to ∷ []) i node is in
       let long = length_push nodes to in
       let at : length nodes ≡ i = omega (arith, past, inside, long) in
       let here : to ≡ node = same_Some to node (sym (slice_get-push nodes to) ∙ ap (slice_get (nodes ++ to ∷ [])) at ∙ is) in
-      subst (λ (k : ℕ). IsListed new node.row k) at (subst (λ (n : Node). IsListed new n.row (length nodes)) here there)
+      subst (λ (k : ℕ). IsNodeListed new k node) at (subst (IsNodeListed new (length nodes)) here there)
 ]
 
 -- ---- at the limit
@@ -115,7 +121,7 @@ too_many spec limit nodes many gathered apart = record {
   apart = apart;
 }
 
--- ---- indices by rows
+-- ---- entries by rows
 
 abbrev pub same_view : List (Option ℕ) → List (Option ℕ) → Bool
 same_view a b = pointwise (option_eq eqb) a b
@@ -126,10 +132,13 @@ cases_row a b = elim (cases_Bool (same_view a b)) [
   | inr other ↦ inr (λ same. true≢false (sym (own_row a) ∙ ap (same_view a) same ∙ other))
 ]
 
--- what is so of nodes of another row, and of each whose index is among those of this row, is so of each node
-pub not_listed : (P : Node → Type 0) (rows : Rows) (nodes : List Node) (row : List (Option ℕ)) → AreListed rows nodes → (i : ℕ) (other : Node) → slice_get nodes i ≡ Some other → ((other.row ≡ row → ⊥) → P other) → (IsListed rows row i → P other) → P other
+-- what is so of nodes of another row, and of each whose entry is among those of this row, is so of each node
+pub not_listed : (P : Node → Type 0) (rows : Rows) (nodes : List Node) (row : List (Option ℕ)) → AreListed rows nodes → (i : ℕ) (other : Node) → slice_get nodes i ≡ Some other → ((other.row ≡ row → ⊥) → P other)
+    → ((marks : ℕ) → IsListed rows row (record { index = i; marks = marks }) → HasMarks other marks → P other) → P other
 not_listed P rows nodes row listed i other is differs each = elim (cases_row other.row row) [
-  | inl same ↦ each (subst (λ (r : List (Option ℕ)). IsListed rows r i) same (listed i other is))
+  | inl same ↦
+      let one = listed i other is in
+      each one.marks (subst (λ (r : List (Option ℕ)). IsListed rows r (record { index = i; marks = one.marks })) same one.listed) one.has
   | inr differ ↦ differs differ
 ]
 
@@ -139,7 +148,7 @@ none_listed rows nodes none i node is =
     let long = ap (λ (l : List Node). length l) none in
     absurd (omega (arith, inside, long))
 
--- ---- the indices of one row change
+-- ---- the entries of one row change
 
 abbrev View : Type 0
 View = ArrayVec (Option ℕ)
@@ -153,58 +162,69 @@ same_views a b is = ap (λ (items : List (Option ℕ)). let view : View = record
 pub views_equivalence : IsEquivalence views_equal
 views_equivalence = equivalence views_equal same_views (λ a. own_row a.items)
 
--- these are the indices of a row, and all others stay
-abbrev pub RowChanges : Rows → Rows → View → Vec ℕ → Type 0
-RowChanges before after row indices = (other : View) → indices_at after other.items ≡ cond (views_equal row other) (Some indices) (indices_at before other.items)
+-- these are the entries of a row, and all others stay
+abbrev pub RowChanges : Rows → Rows → View → Vec Entry → Type 0
+RowChanges before after row entries = (other : View) → entries_at after other.items ≡ cond (views_equal row other) (Some entries) (entries_at before other.items)
 
 abbrev view_of : List (Option ℕ) → View
 view_of row = record { items = row }
 
-pub listed_here : (before after : Rows) (row : View) (indices : Vec ℕ) (index : ℕ) → RowChanges before after row indices → Contains indices.items index → IsListed after row.items index
-listed_here before after row indices index changes among = record {
-  indices = indices;
-  there = changes row ∙ ap (λ (b : Bool). cond b (Some indices) (indices_at before row.items)) (own_row row.items);
+pub listed_here : (before after : Rows) (row : View) (entries : Vec Entry) (entry : Entry) → RowChanges before after row entries → Contains entries.items entry → IsListed after row.items entry
+listed_here before after row entries entry changes among = record {
+  entries = entries;
+  there = changes row ∙ ap (λ (b : Bool). cond b (Some entries) (entries_at before row.items)) (own_row row.items);
   among = among;
 }
 
-pub listed_kept : (before after : Rows) (row : View) (indices : Vec ℕ) → RowChanges before after row indices → ((i : ℕ) → IsListed before row.items i → Contains indices.items i)
-    → (other : List (Option ℕ)) (i : ℕ) → IsListed before other i → IsListed after other i
-listed_kept before after row indices changes keeps other i listed = elim (cases_Bool (same_view row.items other)) [
+pub listed_kept : (before after : Rows) (row : View) (entries : Vec Entry) → RowChanges before after row entries → ((one : Entry) → IsListed before row.items one → Contains entries.items one)
+    → (other : List (Option ℕ)) (one : Entry) → IsListed before other one → IsListed after other one
+listed_kept before after row entries changes keeps other one listed = elim (cases_Bool (same_view row.items other)) [
   | inl is ↦ record {
-    indices = indices;
-    there = changes (view_of other) ∙ ap (λ (b : Bool). cond b (Some indices) (indices_at before other)) is;
-    among = keeps i (subst (λ (r : List (Option ℕ)). IsListed before r i) (sym (same_row row.items other is)) listed);
+    entries = entries;
+    there = changes (view_of other) ∙ ap (λ (b : Bool). cond b (Some entries) (entries_at before other)) is;
+    among = keeps one (subst (λ (r : List (Option ℕ)). IsListed before r one) (sym (same_row row.items other is)) listed);
   }
   | inr differs ↦ record {
-    indices = listed.indices;
-    there = changes (view_of other) ∙ ap (λ (b : Bool). cond b (Some indices) (indices_at before other)) differs ∙ listed.there;
+    entries = listed.entries;
+    there = changes (view_of other) ∙ ap (λ (b : Bool). cond b (Some entries) (entries_at before other)) differs ∙ listed.there;
     among = listed.among;
   }
 ]
 
--- no index is listed under a row that is not found
-pub unlisted : (rows : Rows) (row : List (Option ℕ)) (i : ℕ) → is_some (indices_at rows row) ≡ false → IsListed rows row i → ⊥
-unlisted rows row i none listed = true≢false (sym (ap is_some listed.there) ∙ none)
+-- no entry is listed under a row that is not found
+pub unlisted : (rows : Rows) (row : List (Option ℕ)) (entry : Entry) → is_some (entries_at rows row) ≡ false → IsListed rows row entry → ⊥
+unlisted rows row entry none listed = true≢false (sym (ap is_some listed.there) ∙ none)
 
-pub listed_among : (rows : Rows) (row : List (Option ℕ)) (i : ℕ) (indices : Vec ℕ) → indices_at rows row ≡ Some indices → IsListed rows row i → Contains indices.items i
-listed_among rows row i indices there listed = subst (λ (v : Vec ℕ). Contains v.items i) (same_Some listed.indices indices (sym listed.there ∙ there)) listed.among
+pub listed_among : (rows : Rows) (row : List (Option ℕ)) (entry : Entry) (entries : Vec Entry) → entries_at rows row ≡ Some entries → IsListed rows row entry → Contains entries.items entry
+listed_among rows row entry entries there listed = subst (λ (v : Vec Entry). Contains v.items entry) (same_Some listed.entries entries (sym listed.there ∙ there)) listed.among
 
-entry_at : (rows : Rows) (i : ℕ) (indices : Vec ℕ) (d : View) → slice_get (values_of rows) i ≡ Some indices → slice_get rows i ≡ Some (get_or (keys_of rows) i d, indices)
-entry_at [] i indices d there = absurd (let none : None ≡ Some indices = there in cc)
-entry_at (entry ∷ rows) zero indices d there = ap (λ (v : Vec ℕ). Some (entry.0, v)) (same_Some entry.1 indices there)
-entry_at (entry ∷ rows) (suc i) indices d there = entry_at rows i indices d there
+entry_at : (rows : Rows) (i : ℕ) (entries : Vec Entry) (d : View) → slice_get (values_of rows) i ≡ Some entries → slice_get rows i ≡ Some (get_or (keys_of rows) i d, entries)
+entry_at [] i entries d there = absurd (let none : None ≡ Some entries = there in cc)
+entry_at (entry ∷ rows) zero entries d there = ap (λ (v : Vec Entry). Some (entry.0, v)) (same_Some entry.1 entries there)
+entry_at (entry ∷ rows) (suc i) entries d there = entry_at rows i entries d there
 
-pub entry_there : (rows : Rows) (row : View) (i : ℕ) (indices : Vec ℕ) → position (views_equal row) (keys_of rows) ≡ Some i → slice_get (values_of rows) i ≡ Some indices → slice_get rows i ≡ Some (row, indices)
-entry_there rows row i indices found there =
+pub entry_there : (rows : Rows) (row : View) (i : ℕ) (entries : Vec Entry) → position (views_equal row) (keys_of rows) ≡ Some i → slice_get (values_of rows) i ≡ Some entries → slice_get rows i ≡ Some (row, entries)
+entry_there rows row i entries found there =
     let passes = (position-Some (views_equal row) (keys_of rows) i row found).1 in
-    entry_at rows i indices row there ∙ ap (λ (key : View). Some (key, indices)) (sym (same_views row (get_or (keys_of rows) i row) passes))
+    entry_at rows i entries row there ∙ ap (λ (key : View). Some (key, entries)) (sym (same_views row (get_or (keys_of rows) i row) passes))
 
--- what is so of each of some indices
-pub from_listed : (P : Node → Type 0) (nodes : List Node) (items : List ℕ) (from later : ℕ) (other : Node) → ((k : ℕ) → k < length items → (one : Node) → from ≤ get_or items k 0 → slice_get nodes (get_or items k 0) ≡ Some one → P one)
-    → Contains items later → from ≤ later → slice_get nodes later ≡ Some other → P other
-from_listed P nodes items from later other each there past is =
-    let at : get_or items there.0 0 ≡ later = get_or_from_slice_get items there.0 later 0 (slice_get-get_or items there.0 later there.1 ∙ ap Some there.2) in
-    each there.0 there.1 other (subst (λ (k : ℕ). from ≤ k) (sym at) past) (ap (slice_get nodes) at ∙ is)
+-- what is so of the nodes of some entries
+pub from_listed : (P : Node → Type 0) (nodes : List Node) (items : List Entry) (from later marks : ℕ) (other : Node)
+    → ((k : ℕ) → k < length items → (one : Node) → from ≤ (get_or items k no_entry).index → slice_get nodes (get_or items k no_entry).index ≡ Some one → HasMarks one (get_or items k no_entry).marks → P one)
+    → Contains items (record { index = later; marks = marks }) → from ≤ later → slice_get nodes later ≡ Some other → HasMarks other marks → P other
+from_listed P nodes items from later marks other each there past is has =
+    let entry : Entry = record { index = later; marks = marks } in
+    let at : get_or items there.0 no_entry ≡ entry = get_or_from_slice_get items there.0 entry no_entry (slice_get-get_or items there.0 entry there.1 ∙ ap Some there.2) in
+    each there.0 there.1 other (subst (λ (e : Entry). from ≤ e.index) (sym at) past) (ap (λ (e : Entry). slice_get nodes e.index) at ∙ is) (subst (λ (e : Entry). HasMarks other e.marks) (sym at) has)
+
+-- ---- by their marks
+
+-- a local state whose mark another node has not
+pub other_local : (has : ℕ → LocalState → Type 0) (other : Node) (marks others : ℕ) → AreMarksOf has marks → HasMarks other others → (k : ℕ) × (bit_at marks k ≡ 1) × (bit_at others k ≡ 1 → ⊥)
+    → (p : ℕ) × (local : LocalState) × has p local × (Contains (set_of other p) local → ⊥)
+other_local has other marks others each all bit =
+    let mine = each bit.0 bit.1 in
+    (mine.0, mine.1, mine.2, λ there. bit.2 (subst (λ (k : ℕ). bit_at others k ≡ 1) mine.3 (all mine.0 mine.1 there)))
 
 -- ---- after a write
 

@@ -1,5 +1,6 @@
 -- What is so when a search reaches its limit.
 use Rattle.std.specs.Prelude.{◌≡◌, ◌⊎◌, ℕ, ◌<◌, List, length, Option, Some, eqb, slice_get}
+use Rattle.std.specs.Int.{bit_at}
 use Rattle.std.specs.List.{Contains}
 use Rattle.std.specs.Cmp.Lexicographic.{pointwise}
 use Rattle.std.specs.Global.{Vec}
@@ -7,8 +8,10 @@ use Rattle.std.specs.Map.{lookup}
 use Rattle.std.specs.Option.{option_eq}
 use Rattle.arrayvec.specs.ArrayVec.{ArrayVec}
 use Rattle.room_spec.specs.Rooms.{RoomSpec, processes}
+use Rattle.run_search.specs.declared.explored.Entry.{Entry}
 use Rattle.run_search.specs.declared.explored.Explored.{Explored}
 use Rattle.run_search.specs.declared.local_state.LocalState.{LocalState}
+use Rattle.run_search.specs.Marks.{AreMarksOf, mark_of}
 use Rattle.run_search.specs.Nodes.{AreGathered, Covers, Node, set_of}
 use Rattle.run_search.specs.Steps.{IsReachable}
 
@@ -31,22 +34,40 @@ pub record AreTooMany (spec : RoomSpec) (limit : ℕ) : Type 0 where
 
 -- ---- how nodes are found by their rows
 
--- indices of nodes by their row
+-- what is kept of nodes, by their row
 abbrev pub Rows : Type 0
-Rows = List (ArrayVec (Option ℕ) × Vec ℕ)
+Rows = List (ArrayVec (Option ℕ) × Vec Entry)
 
-abbrev pub indices_at : Rows → List (Option ℕ) → Option (Vec ℕ)
-indices_at rows row = lookup (λ key. pointwise (option_eq eqb) row key.items) rows
+abbrev pub entries_at : Rows → List (Option ℕ) → Option (Vec Entry)
+entries_at rows row = lookup (λ key. pointwise (option_eq eqb) row key.items) rows
 
--- the index is among those of the row
-pub record IsListed (rows : Rows) (row : List (Option ℕ)) (index : ℕ) : Type 0 where
-  pub indices : Vec ℕ
-  pub there : indices_at rows row ≡ Some indices
-  pub among : Contains indices.items index
+-- what is read beyond the end of a list of entries
+abbrev pub no_entry : Entry
+no_entry = record { index = 0; marks = 0 }
 
--- so is that of each node
+-- the entry is among those of the row
+pub record IsListed (rows : Rows) (row : List (Option ℕ)) (entry : Entry) : Type 0 where
+  pub entries : Vec Entry
+  pub there : entries_at rows row ≡ Some entries
+  pub among : Contains entries.items entry
+
+-- each local state of the node has its mark among these
+abbrev pub HasMarks : Node → ℕ → Type 0
+HasMarks node marks = (p : ℕ) (local : LocalState) → Contains (set_of node p) local → bit_at marks (mark_of p local) ≡ 1
+
+-- the node of this index is listed under its row, with its marks
+pub record IsNodeListed (rows : Rows) (index : ℕ) (node : Node) : Type 0 where
+  pub marks : ℕ
+  pub listed : IsListed rows node.row (record { index = index; marks = marks })
+  pub has : HasMarks node marks
+
+-- so is each node
 abbrev pub AreListed : Rows → List Node → Type 0
-AreListed rows nodes = (i : ℕ) (node : Node) → slice_get nodes i ≡ Some node → IsListed rows node.row i
+AreListed rows nodes = (i : ℕ) (node : Node) → slice_get nodes i ≡ Some node → IsNodeListed rows i node
+
+-- each of these marks is that of a local state of the node
+abbrev pub AreMarksIn : Node → ℕ → Type 0
+AreMarksIn node marks = AreMarksOf (λ p local. (p < length node.sets) × Contains (set_of node p) local) marks
 
 -- the nodes have another row, or sets for another number of processes, or one has a local state that the other has not
 abbrev pub IsNotBelow : Node → Node → Type 0
@@ -57,6 +78,10 @@ IsNotBelow node above =
 -- what process q may be in when process p of the node is in this local state
 abbrev pub IsAfter : Node → ℕ → LocalState → ℕ → LocalState → Type 0
 IsAfter node p new q local = ((q ≡ p) × (local ≡ new)) ⊎ ((q ≡ p → ⊥) × Contains (set_of node q) local)
+
+-- each of these marks is that of a local state that some process may be in then
+abbrev pub AreMarksAfter : RoomSpec → Node → ℕ → LocalState → ℕ → Type 0
+AreMarksAfter spec node p new marks = AreMarksOf (λ q local. (q < processes spec) × IsAfter node p new q local) marks
 
 -- another node has all of it, and this row
 pub record HasAfter (spec : RoomSpec) (node : Node) (p : ℕ) (new : LocalState) (row : List (Option ℕ)) (above : Node) : Type 0 where

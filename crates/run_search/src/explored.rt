@@ -2,24 +2,33 @@
 ghost use Rattle.std.specs.Prelude.{◌≡◌, ◌<◌, ◌≤◌, ◌⊎◌, ◌∷◌, ◌++◌, [], ℕ, List, Option, true, false, Some, IfErr, IfOk, OnOk, length, slice_get};
 ghost use Rattle.std.specs.List.{Contains};
 ghost use Rattle.room_spec.specs.Rooms.{processes};
-ghost use Rattle.run_search.specs.Limits.{AreListed, AreTooMany, HasAfter, IsListed, IsNotBelow, IsSearched, LacksAfter};
+ghost use Rattle.run_search.specs.Limits.{AreListed, AreMarksAfter, AreMarksIn, AreTooMany, HasAfter, HasMarks, IsListed, IsNotBelow, IsSearched, LacksAfter};
 ghost use Rattle.run_search.specs.declared.fault.SearchFault.TheVariants.{TooManyNodes};
 ghost use Rattle.run_search.specs.Nodes.{AreGathered, CoverAllReachable, HasEdge, HasEdges, HasEdgesBelow, IsBelow, IsBelowLater, Node as NodeValue, NodesGrow, set_of};
+ghost use Rattle.run_search.specs.declared.explored.Entry.{Entry as EntryValue};
 ghost use Rattle.run_search.specs.declared.local_state.LocalState.{LocalState as LocalValue};
 
 use crate::fault::SearchFault;
-use crate::node::{After, Node, Place, copied, has_after};
+use crate::mark::has_other;
+use crate::node::{After, Node, Place, copied, has_after, marks_after};
 use crate::progress::Progress;
 use indexmap::IndexMap;
 use protocol_lang::View;
 use room_spec::Spec;
 use std::alloc::{AllocError, Global};
 
-/// Nodes, each with the write by which it was reached first, and the indices of those with the same row.
+/// Nodes, each with the write by which it was reached first, and an entry for each under its row.
 #[derive(Drop)]
 pub struct Explored {
     pub nodes: Vec<Node>,
-    by_row: IndexMap<View, Vec<usize>>,
+    by_row: IndexMap<View, Vec<Entry>>,
+}
+
+/// A node in the list of those with the same row: its index, and the marks of its local states.
+#[derive(Clone, Copy)]
+struct Entry {
+    index: usize,
+    marks: u64,
 }
 
 /// Finds nodes that cover the states of all runs of a room and no others, breadth first. A node that has no more than another is left out, with all
@@ -150,24 +159,30 @@ impl Explored {
         ensures lacks { result ≡ false → (index : ℕ) (other : NodeValue) → slice_get self.now.nodes.items index ≡ Some other →
             LacksAfter spec.now after.now.node.now after.now.process after.now.new after.now.row.now.items other }
     {
-        let Some(indices) = self.by_row.get(after.row) else {
+        let Some(entries) = self.by_row.get(after.row) else {
             return false;
         };
-        for index in indices.as_slice() {
-            if self.has_after_at(spec, after, *index) {
+        let marks = marks_after(spec, after, entries.len());
+        for entry in entries.as_slice() {
+            if self.has_after_at(spec, after, marks, *entry) {
                 return true;
             }
         }
         false
     }
 
-    /// Whether the node of this index has that.
-    fn has_after_at(&self, spec: &Spec, after: &After<'_>, index: usize) -> bool
-        requires { length after.now.node.now.sets ≡ processes spec.now }
-        ensures has { result ≡ true → (above : NodeValue) × (slice_get self.now.nodes.items index ≡ Some above) × HasAfter spec.now after.now.node.now after.now.process after.now.new after.now.row.now.items above }
-        ensures lacks { result ≡ false → (other : NodeValue) → slice_get self.now.nodes.items index ≡ Some other → LacksAfter spec.now after.now.node.now after.now.process after.now.new after.now.row.now.items other }
+    /// Whether the node of this entry has that. These are the marks of what the node has after the write: if the other node lacks one of them, it isn't looked at.
+    fn has_after_at(&self, spec: &Spec, after: &After<'_>, marks: u64, entry: Entry) -> bool
+        requires width { length after.now.node.now.sets ≡ processes spec.now }
+        requires marks { AreMarksAfter spec.now after.now.node.now after.now.process after.now.new marks }
+        ensures has { result ≡ true → (above : NodeValue) × (slice_get self.now.nodes.items entry.index ≡ Some above) × HasAfter spec.now after.now.node.now after.now.process after.now.new after.now.row.now.items above }
+        ensures lacks { result ≡ false → (other : NodeValue) → slice_get self.now.nodes.items entry.index ≡ Some other → HasMarks other entry.marks →
+            LacksAfter spec.now after.now.node.now after.now.process after.now.new after.now.row.now.items other }
     {
-        match self.nodes.get(index) {
+        if has_other(marks, entry.marks) {
+            return false;
+        }
+        match self.nodes.get(entry.index) {
             None => false,
             Some(above) => has_after(spec, after, above),
         }
@@ -179,26 +194,31 @@ impl Explored {
         ensures above { result ≡ true → (later : ℕ) × (above : NodeValue) × (from ≤ later) × (slice_get self.now.nodes.items later ≡ Some above) × IsBelow node.now above }
         ensures none { result ≡ false → (later : ℕ) (other : NodeValue) → from ≤ later → slice_get self.now.nodes.items later ≡ Some other → IsNotBelow node.now other }
     {
-        let Some(indices) = self.by_row.get(node.row()) else {
+        let Some(entries) = self.by_row.get(node.row()) else {
             return false;
         };
-        for index in indices.as_slice() {
-            if self.is_above(node, from, *index) {
+        let marks = node.marks();
+        for entry in entries.as_slice() {
+            if self.is_above(node, marks, from, *entry) {
                 return true;
             }
         }
         false
     }
 
-    /// Whether the node of this index is among those, and has all that this one has.
-    fn is_above(&self, node: &Node, from: usize, index: usize) -> bool
-        ensures above { result ≡ true → (above : NodeValue) × (from ≤ index) × (slice_get self.now.nodes.items index ≡ Some above) × IsBelow node.now above }
-        ensures none { result ≡ false → (other : NodeValue) → from ≤ index → slice_get self.now.nodes.items index ≡ Some other → IsNotBelow node.now other }
+    /// Whether the node of this entry is among those, and has all that this one has, whose marks these are.
+    fn is_above(&self, node: &Node, marks: u64, from: usize, entry: Entry) -> bool
+        requires { AreMarksIn node.now marks }
+        ensures above { result ≡ true → (above : NodeValue) × (from ≤ entry.index) × (slice_get self.now.nodes.items entry.index ≡ Some above) × IsBelow node.now above }
+        ensures none { result ≡ false → (other : NodeValue) → from ≤ entry.index → slice_get self.now.nodes.items entry.index ≡ Some other → HasMarks other entry.marks → IsNotBelow node.now other }
     {
-        if index < from {
+        if entry.index < from {
             return false;
         }
-        match self.nodes.get(index) {
+        if has_other(marks, entry.marks) {
+            return false;
+        }
+        match self.nodes.get(entry.index) {
             None => false,
             Some(above) => node.is_below(above),
         }
@@ -209,31 +229,35 @@ impl Explored {
         ensures nodes { OnOk result (self.new.nodes.items ≡ self.old.nodes.items ++ node ∷ []) }
         ensures listed { OnOk result (AreListed self.old.by_row.entries self.old.nodes.items → AreListed self.new.by_row.entries self.new.nodes.items) }
     {
-        list(alloc, &mut self.by_row, node.row(), self.nodes.len())?;
+        let entry = Entry {
+            index: self.nodes.len(),
+            marks: node.marks(),
+        };
+        list(alloc, &mut self.by_row, node.row(), entry)?;
         self.nodes.push(node)?;
         Ok(())
     }
 }
 
-/// Lists an index under a row.
+/// Lists an entry under a row.
 fn list(
     alloc: Global,
-    rows: &mut IndexMap<View, Vec<usize>>,
+    rows: &mut IndexMap<View, Vec<Entry>>,
     row: &View,
-    index: usize,
+    entry: Entry,
 ) -> Result<(), AllocError>
-    ensures there { OnOk result (IsListed rows.new.entries row.now.items index) }
-    ensures kept { OnOk result ((other : List (Option ℕ)) (i : ℕ) → IsListed rows.old.entries other i → IsListed rows.new.entries other i) }
+    ensures there { OnOk result (IsListed rows.new.entries row.now.items entry) }
+    ensures kept { OnOk result ((other : List (Option ℕ)) (one : EntryValue) → IsListed rows.old.entries other one → IsListed rows.new.entries other one) }
 {
     let Some(place) = rows.get_index_of(row) else {
-        let mut indices = Vec::new(alloc);
-        indices.push(index)?;
-        rows.insert(copied(row), indices)?;
+        let mut entries = Vec::new(alloc);
+        entries.push(entry)?;
+        rows.insert(copied(row), entries)?;
         return Ok(());
     };
-    let Some(indices) = rows.get_index_mut(place) else {
+    let Some(entries) = rows.get_index_mut(place) else {
         unreachable!() // the place was found just now
     };
-    indices.push(index)?;
+    entries.push(entry)?;
     Ok(())
 }

@@ -1,5 +1,5 @@
 //! Nodes: for each process a set of local states that it may be in while memory stays as it is.
-ghost use Rattle.run_search.specs.Limits.{HasAfter, IsNotBelow, LacksAfter};
+ghost use Rattle.run_search.specs.Limits.{AreMarksAfter, AreMarksIn, HasAfter, HasMarks, IsNotBelow, LacksAfter};
 ghost use Rattle.std.specs.Prelude.{◌≡◌, ◌<◌, ◌⊎◌, ◌∷◌, ℕ, [], List, Option, true, false, IfOk, IfSome, MatchBool, MatchOption, OnOk, Some, length, slice_get, slice_set};
 ghost use Rattle.std.specs.List.{Contains};
 ghost use Rattle.room_spec.specs.Rooms.{RoomSpec, processes};
@@ -7,6 +7,7 @@ ghost use Rattle.run_search.specs.Nodes.{AreIn, AreWithinRounds, Changes, Covers
 ghost use Rattle.run_search.specs.declared.local_state.LocalState.{LocalState as LocalValue};
 
 use crate::local_state::{Due, LocalState, Origin, State};
+use crate::mark::with_marks;
 use crate::step::{moved, opening, row_of};
 use protocol_lang::View;
 use room_spec::Spec;
@@ -200,6 +201,18 @@ impl Node {
         Ok(to)
     }
 
+    /// The marks of its local states.
+    pub fn marks(&self) -> u64
+        ensures all { HasMarks self.now result }
+        ensures each { AreMarksIn self.now result }
+    {
+        let mut marks = 0;
+        for p in 0..self.sets.len() {
+            marks = with_marks(marks, p, self.set(p));
+        }
+        marks
+    }
+
     /// Whether another node has all that this one has.
     pub fn is_below(&self, above: &Node) -> bool
         ensures below { result ≡ true → IsBelow self.now above.now }
@@ -257,6 +270,23 @@ impl Node {
             come_from(self.set(q), node.row(), spec, q, to)
         }
     }
+}
+
+/// The marks of what a node has after a write, for a comparison with this number of nodes. There are none for a single one, which is compared as quickly without them.
+pub fn marks_after(spec: &Spec, after: &After<'_>, count: usize) -> u64
+    requires width { length after.now.node.now.sets ≡ processes spec.now }
+    ensures { AreMarksAfter spec.now after.now.node.now after.now.process after.now.new result }
+{
+    if count < 2 {
+        return 0;
+    }
+    let own = [after.new];
+    let mut marks = 0;
+    for q in 0..spec.n() {
+        let set = after.node.old_after(after.process, &own, q);
+        marks = with_marks(marks, q, set);
+    }
+    marks
 }
 
 /// Whether another node has what a node has after a write: all that the one has that the write leads to.

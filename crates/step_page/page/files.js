@@ -2,11 +2,12 @@
 
 let isEmpty = true; // so far: no file has any text
 
-// Each file is an element of a class that says what it is, followed by the answer to it.
+// Each file is an element of a class that says what it is, followed by the answer to it, and maybe by the outcomes that are open after each command.
 function readFile(element) {
-  const answer = element.nextElementSibling.textContent;
+  const answer = element.nextElementSibling;
+  const open = answer.nextElementSibling;
   isEmpty = isEmpty && element.textContent === '';
-  return element.className === 'transcript' ? readJudged(element.textContent, answer) : readScript(element.textContent, answer);
+  return element.className === 'transcript' ? readJudged(element.textContent, answer.textContent) : readScript(element.textContent, answer.textContent, open?.className === 'open' ? open.textContent : '');
 }
 
 function fromAddress() {

@@ -96,7 +96,8 @@ function drawLanes(room, count) {
   const total = room.moments.length;
   const first = firstDrawn(total, count);
   const top = TOP + room.simulators * LANE + 6;
-  const height = top + room.inputs.length * EVENTS + 6;
+  const bottom = top + room.inputs.length * EVENTS;
+  const height = bottom + (room.openings.length > 0 ? EVENTS : 0) + 6;
   const width = LEFT + (Math.min(total, layout.columns) + 1) * SQUARE + 60;
   room.events ??= eventsOf(stateAt(room, total), room);
   room.unreported = new Set(eventsOf(stateAt(room, count), room).filter(event => !event.isReported).map(event => event.at));
@@ -108,5 +109,6 @@ function drawLanes(room, count) {
     + drawNow(now, height)
     + range(room.inputs.length).map(p => textAt(2, top + p * EVENTS + 15, 'process ' + p, `fill="${hueOf(p)}"`) + `<path d="M 98 ${top + p * EVENTS + 10} H ${width}" stroke="var(--rule)"/>`).join('')
     + range(room.inputs.length).map(p => drawEvents(room, events.filter(event => event.process === p), first, count, top + p * EVENTS)).join('')
+    + (room.openings.length > 0 ? drawOpenings(room, first, count, bottom, width) : '')
     + '</svg>';
 }

@@ -48,21 +48,25 @@ function addMoments(moments, { reply, simulator, last, processes }, taken) {
 // The name of a command may be no text.
 const refusalText = ({ line, room, fault, words }) => `${line ? `line ${line}` : room ?? '\ufffd'} refused ${fault.join(' ')}: ${words}`;
 
-// All rooms that the script opened, in order, and what was refused.
-function readScript(script, trace) {
+// All rooms that the script opened, in order, and what was refused. `open` says, if anything, which outcomes are open after each command.
+function readScript(script, trace, open = '') {
   const blocks = blocksOf(script);
   const rooms = [];
-  const open = new Map();
+  const openings = readOpenings(open);
+  const byName = new Map();
   const refused = [];
   readReplies(trace).forEach(({ said, taken }, index) => {
     if (said.reply === 'refused') {
       refused.push(refusalText(said));
-    } else if (said.reply === 'opened') {
-      rooms.push({ ...readSpec(blocks[index]), moments: [], show: SIMULATION });
-      open.set(said.room, rooms.at(-1));
-    } else {
-      addMoments(open.get(said.room).moments, said, taken);
+      return;
     }
+    if (said.reply === 'opened') {
+      rooms.push({ ...readSpec(blocks[index]), moments: [], openings: [], show: SIMULATION });
+      byName.set(said.room, rooms.at(-1));
+    } else {
+      addMoments(byName.get(said.room).moments, said, taken);
+    }
+    if (openings[index]?.room) addOpening(byName.get(said.room), openings[index]);
   });
   return { rooms, refused };
 }

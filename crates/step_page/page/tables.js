@@ -97,7 +97,7 @@ const SIMULATION = {
   tables(room, count) {
     const state = stateAt(room, count);
     const moment = room.moments[count - 1];
-    return stepNumbers(room, state, moment) + agreements(room, state, moment) + values(room, state, moment) + processes(room, state);
+    return stepNumbers(room, state, moment) + agreements(room, state, moment) + values(room, state, moment) + processes(room, state) + outcomes(room, count);
   },
   isSameTurn: (one, other) => one.simulator === other.simulator && one.turn === other.turn && !one.crash === !other.crash,
 };

@@ -22,10 +22,17 @@ abbrev pub tag_of : FileKind → List ℕ
 tag_of Script = codes "<div class=\"script\" hidden>"
 tag_of Transcript = codes "<div class=\"transcript\" hidden>"
 
+-- an element that begins with a tag, and has a text
+abbrev pub element_text : List ℕ → List ℕ → List ℕ
+element_text tag text = tag ++ (escaped text ++ codes "</div>\n")
+
 -- a file and the answer to it, each as the text of an element of its own
 abbrev pub file_text : FileKind → List ℕ → List ℕ → List ℕ
-file_text kind file answer =
-    tag_of kind ++ (escaped file ++ (codes "</div>\n<div class=\"answer\" hidden>" ++ (escaped answer ++ codes "</div>\n")))
+file_text kind file answer = element_text (tag_of kind) file ++ element_text (codes "<div class=\"answer\" hidden>") answer
+
+-- the outcomes that are open after each command of the script before it
+abbrev pub open_text : List ℕ → List ℕ
+open_text answer = element_text (codes "<div class=\"open\" hidden>") answer
 
 -- a page that holds these files
 unfoldable pub page_text : List ℕ → List ℕ

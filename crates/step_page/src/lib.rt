@@ -4,4 +4,4 @@
 mod page;
 mod parts;
 
-pub use page::{FileKind, begin_page, end_page, put_file};
+pub use page::{FileKind, begin_page, end_page, put_file, put_open};

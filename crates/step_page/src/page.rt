@@ -1,7 +1,7 @@
 //! The page: its constant parts, and between them files with the answers to them.
 ghost use Rattle.std.specs.Prelude.{◌≡◌, ◌++◌, OnOk};
 ghost use Rattle.std.specs.List.{flat_map};
-ghost use Rattle.step_page.specs.Pages.{escaped, escaped_byte, file_text, tag_of};
+ghost use Rattle.step_page.specs.Pages.{element_text, escaped, escaped_byte, file_text, open_text, tag_of};
 ghost use Rattle.step_page.specs.declared.parts.TheConstants.{BEGIN as begin, END as end};
 
 use crate::parts::{BEGIN, END};
@@ -53,11 +53,19 @@ pub fn put_file(
 ) -> Result<(), AllocError>
     ensures { OnOk result (output.new ≡ output.old ++ file_text kind file.now answer.now) }
 {
-    output.put(kind.tag())?;
-    write_escaped(output, file)?;
-    output.put(b"</div>\n<div class=\"answer\" hidden>")?;
-    write_escaped(output, answer)?;
-    output.put(b"</div>\n")
+    write_element(output, kind.tag(), file)?;
+    write_element(output, b"<div class=\"answer\" hidden>", answer)
+}
+
+/// Writes the outcomes that are open after each command of the script before it, as JSON.
+///
+/// # Errors
+///
+/// If an allocation fails.
+pub fn put_open(output: &mut Text, answer: &[u8]) -> Result<(), AllocError>
+    ensures { OnOk result (output.new ≡ output.old ++ open_text answer.now) }
+{
+    write_element(output, b"<div class=\"open\" hidden>", answer)
 }
 
 /// Writes what is after the files of a page. The page is complete: it asks for nothing else.
@@ -69,6 +77,15 @@ pub fn end_page(output: &mut Text) -> Result<(), AllocError>
     ensures { OnOk result (output.new ≡ output.old ++ end.now) }
 {
     output.put(END)
+}
+
+/// Writes an element that begins with this tag, and has this text.
+fn write_element(output: &mut Text, tag: &[u8], text: &[u8]) -> Result<(), AllocError>
+    ensures { OnOk result (output.new ≡ output.old ++ element_text tag.now text.now) }
+{
+    output.put(tag)?;
+    write_escaped(output, text)?;
+    output.put(b"</div>\n")
 }
 
 /// Writes a text so that a browser reads it as the text of an element.

@@ -1,5 +1,5 @@
 -- A page that steps through the rooms of a file, or of two next to each other.
-use Rattle.std.specs.Prelude.{◌≡◌, ⊤, ℕ, false, List, [], ◌∷◌, map, Option, Some, None, Result, Ok, Err}
+use Rattle.std.specs.Prelude.{◌≡◌, ⊤, ℕ, true, false, List, [], ◌∷◌, ◌++◌, map, Option, Some, None, Result, Ok, Err}
 use Rattle.std.specs.List.{flat_map}
 use Rattle.std.specs.Option.{option_or}
 use Rattle.std.specs.declared.alloc.AllocError.{AllocError}
@@ -13,11 +13,13 @@ use Rattle.script_play.specs.Script.{script_says}
 use Rattle.file_faults.specs.Kinds.{kind_of as read_as}
 use Rattle.file_faults.specs.declared.kinds.Kind.{Kind}
 use Rattle.file_faults.specs.declared.kinds.Kind.TheVariants as kinds
-use Rattle.step_page.specs.Pages.{file_text, page_text}
+use Rattle.step_page.specs.Pages.{file_text, open_text, page_text}
 use Rattle.step_page.specs.declared.page.FileKind.{FileKind}
 use Rattle.step_page.specs.declared.page.FileKind.TheVariants.{Script, Transcript}
 use Rattle.view_trace.specs.Trace.{IsJsonTraceFor}
 use Rattle.protocol_lang.specs.Trees.{Tree}
+use Rattle.view_open.specs.Watched.{IsOpenFor}
+use Rattle.view_open.specs.declared.plan.OpenPlan.{OpenPlan}
 use Rattle.view_why.specs.Keeping.{IsKeptExplanation}
 use Rattle.view_why.specs.Why.{IsExplanationFor}
 
@@ -89,6 +91,21 @@ pub record IsKeptPage (lines : List Tree) (transcript : List ℕ) (outcome : Out
   pub answer : List ℕ
   pub answered : IsKeptExplanation false lines transcript outcome answer
   pub page_is : page ≡ page_text (file_text Transcript transcript answer)
+
+-- how outcomes that are open are searched, if they are written as JSON
+abbrev pub as_json : OpenPlan → OpenPlan
+as_json plan = record plan { json = true }
+
+-- The page of a script holds it, what `trace --json` answers to it, and the outcomes that are open after each of its commands.
+pub record IsOpenPage (plan : OpenPlan) (script : List ℕ) (ending : Result Outcome AllocError) (page : List ℕ) : Type 0 where
+  pub trace : List ℕ
+  pub openings : List ℕ
+  pub trace_ending : Result Outcome AllocError
+  pub search_ending : Result Outcome AllocError
+  pub traced : IsJsonTraceFor script trace_ending trace
+  pub are_open : IsOpenFor (as_json plan) script search_ending openings
+  pub ending_is : ending ≡ both trace_ending search_ending
+  pub page_is : page ≡ page_text (file_text Script script trace ++ open_text openings)
 
 -- the first fault of the first file that has one
 abbrev pub fault_among : List (List ℕ) → Option FaultAt

@@ -3,4 +3,4 @@
 
 mod pages;
 
-pub use pages::{faults_of, faults_of_both, page, page_of_both, page_of_kept};
+pub use pages::{faults_of, faults_of_both, page, page_of_both, page_of_kept, page_of_open};

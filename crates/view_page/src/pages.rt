@@ -5,7 +5,8 @@ ghost use Rattle.view_page.specs.Faults.{AreBothFaults, AreFileFaults, said_in};
 ghost use Rattle.room_files.specs.Blocks.{IsFaultOr};
 ghost use Rattle.room_files.specs.Inputs.{MayLackMemory, input_says};
 ghost use Rattle.step_page.specs.Pages.{file_text, page_text};
-ghost use Rattle.view_page.specs.Pages.{IsFaultOf, IsFileAnswer, IsKeptPage, IsPageFor, both, fault_among, first_fault, kind_of};
+ghost use Rattle.step_page.specs.declared.page.FileKind.TheVariants.{Script};
+ghost use Rattle.view_page.specs.Pages.{IsFaultOf, IsFileAnswer, IsKeptPage, IsOpenPage, IsPageFor, as_json, both, fault_among, first_fault, kind_of};
 
 use decision_tasks::DecisionTask;
 use file_faults::{Kind, script_faults, transcript_faults};
@@ -13,7 +14,8 @@ use io_text::Text;
 use room_files::{Answer, InputFault, Outcome};
 use script_play::PlayText;
 use std::alloc::{AllocError, Global};
-use step_page::{FileKind, begin_page, end_page, put_file};
+use step_page::{FileKind, begin_page, end_page, put_file, put_open};
+use view_open::{OpenPlan, open_outcomes};
 use view_trace::trace_json;
 use view_why::{explain, explain_kept};
 
@@ -134,6 +136,44 @@ pub fn page_of_kept(
         output,
         outcome: answer.outcome,
     })
+}
+
+/// The page that steps through a script, and says which outcomes its rooms' simulators can still reach after each command.
+///
+/// # Errors
+///
+/// As of [`page`].
+pub fn page_of_open(alloc: Global, script: &[u8], plan: &OpenPlan) -> Result<PlayText, InputFault>
+    requires { length script.now ≤ most_bytes }
+    ensures text { IfOk result (λ paged. IsOpenPage plan.now script.now paged.ending paged.output) }
+    ensures err { IfErr result (IsFaultOf (first_fault Script script.now)) }
+{
+    let traced = trace_json(alloc, script)?;
+    let openings = open_outcomes(alloc, &as_json(plan), script)?;
+    let mut output = Text::new(alloc);
+    begin_page(&mut output)?;
+    put_file(
+        &mut output,
+        FileKind::Script,
+        script,
+        traced.output.as_bytes(),
+    )?;
+    put_open(&mut output, openings.output.as_bytes())?;
+    end_page(&mut output)?;
+    Ok(PlayText {
+        output,
+        ending: both(traced.ending, openings.ending),
+    })
+}
+
+/// The same plan, by which the outcomes are written as JSON.
+fn as_json(plan: &OpenPlan) -> OpenPlan
+    ensures { result ≡ as_json plan.now }
+{
+    OpenPlan {
+        json: true,
+        ..*plan
+    }
 }
 
 /// The page of one file, with this answer to it.

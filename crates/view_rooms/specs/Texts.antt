@@ -32,7 +32,7 @@ missed_words missed = codes "some outcomes may be missing: for" ++ ((32 ∷ deci
 
 -- for how many nodes, which may have others, no schedule was found
 abbrev pub missed_line : ℕ → ℕ → List ℕ
-missed_line missed nodes = missed_words missed ++ ((32 ∷ decimal nodes) ++ codes " nodes, which may have others, no schedule was found within the turns of the room; try more turns\n")
+missed_line missed nodes = missed_words missed ++ ((32 ∷ decimal nodes) ++ codes " nodes, which may have others, no schedule was found; if the room has few turns, try more\n")
 
 abbrev pub end_line : Reach → List ℕ
 end_line reach = if reach.missed == 0 then reached_line (length reach.outcomes.items) reach.nodes else missed_line reach.missed reach.nodes

@@ -116,7 +116,7 @@ fn write_missed(output: &mut Text, missed: u64, nodes: u64) -> Result<(), AllocE
     write_missed_words(output, missed)?;
     output.put_number(nodes)?;
     output.put(
-        b" nodes, which may have others, no schedule was found within the turns of the room; try more turns\n",
+        b" nodes, which may have others, no schedule was found; if the room has few turns, try more\n",
     )
 }
 

@@ -1,12 +1,14 @@
 use Rattle.std.proofs.Common.{◌≡◌, ◌<◌, ◌≤◌, ◌-◌, ℕ, Some}
 use Rattle.std.specs.Prelude.{slice_get}
-use Rattle.room_search.specs.Nodes.{LeadsInside, Node}
+use Rattle.room_core.specs.Calls.{configuration_of}
+use Rattle.room_search.specs.Nodes.{HaveRoom, LeadsInside, Node}
 use Rattle.room_search.specs.Searches.{IsSearched}
 use Rattle.room_search.proofs.explored.explore.Given as goal
 
 abbrev pub invariant-loop-cursor : goal.invariant-loop-cursor
 invariant-loop-cursor g l = record {
   searched : IsSearched l.subject.spec.now l.explored;
+  start : HaveRoom l.explored.table.keys l.explored.nodes.items (configuration_of l.subject.start.now);
   leads : (index : ℕ) (node : Node) → index < l.cursor → slice_get l.explored.nodes.items index ≡ Some node → LeadsInside l.subject.spec.now l.explored.table.keys l.explored.nodes.items node;
   within : l.cursor ≤ l.limit;
 }

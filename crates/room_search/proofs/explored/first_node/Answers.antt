@@ -1,50 +1,42 @@
-use Rattle.std.proofs.Common.{◌≡◌, ℕ, List, length, map, replicate, Some, subst, ap, ◌∙◌, arith}
-use Rattle.std.proofs.lemmas.List.{length-replicate, map_push}
-use Rattle.std.proofs.lemmas.Option.{slice_get_within}
+use Rattle.std.proofs.Common.{◌≡◌, ℕ, List, length, map, subst, sym, ap, ◌∙◌, arith}
+use Rattle.std.proofs.lemmas.List.{map_push}
+use Rattle.room_spec.specs.Rooms.{RoomSpec}
 use Rattle.room_spec.specs.Sizes.{sizes_in}
 use Rattle.view_table.specs.Places.{words_of}
-use Rattle.simulator.specs.Knowing.{knowledge_of}
-use Rattle.room_search.proofs.Searching.{AreFirstSets, first_in, first_is, first_more, known_grown}
-use Rattle.room_search.proofs.Sets.{grows_on, one_number, own_number}
-use Rattle.room_search.proofs.Steps.{known_is_one}
+use Rattle.room_core.specs.Calls.{configuration_of}
+use Rattle.room_search.specs.Steps.{AreWords}
+use Rattle.room_search.proofs.Searching.{AreFirstSets, first_in, first_is, first_more}
 use Rattle.room_search.proofs.explored.first_node.Goals as goal
 
-pub set_from-requires-clause-known : goal.set_from-requires-clause-known
-set_from-requires-clause-known c =
-    c.in_ok-number.ensures.known c.args.subject.now.spec.now (known_is_one c.args.subject.now.spec.now c.new.result c.knowledge.result c.new.ensures.is_mind c.knowledge.ensures) c.loop-i.invariant.known
-
-pub set_from-requires-clause-numbers : goal.set_from-requires-clause-numbers
-set_from-requires-clause-numbers c = one_number c.numbered.new.table.keys c.in_ok-number.number (slice_get_within c.numbered.new.table.keys c.in_ok-number.number c.knowledge.result c.in_ok-number.ensures.there)
+pub first_set-requires-clause-words : goal.first_set-requires-clause-words
+first_set-requires-clause-words c =
+    ap (λ (l : List ℕ). length l) c.in_ok-words.ensures ∙ c.words.ensures.count ∙ ap (λ (s : RoomSpec). words_of (sizes_in s)) c.requires.same
 
 pub loop-i-preserved : goal.loop-i-preserved
-loop-i-preserved c =
-    let spec = c.args.subject.now.spec.now in
-    let number = c.in_ok-number.number in
-    let known = c.knowledge.ensures ∙ ap knowledge_of c.new.ensures.value in
-    let there = known_grown c.numbered.new.table.keys c.set_from.new.table.keys number c.knowledge.result c.in_ok-set.ensures.table c.in_ok-number.ensures.there in
-    record {
-      known = c.in_ok-set.ensures.known;
-      sets = first_more spec c.loop-i.table.keys c.set_from.new.table.keys c.loop-i.i (map (λ set. set.items) c.loop-i.sets.items) _ c.in_ok-set.set.items number
-          (ap (map (λ set. set.items)) c.in_ok-push.ensures.items ∙ map_push (λ set. set.items) c.loop-i.sets.items c.in_ok-set.set)
-          (grows_on c.loop-i.table.keys c.numbered.new.table.keys c.set_from.new.table.keys c.in_ok-number.ensures.grown c.in_ok-set.ensures.table)
-          c.in_ok-set.ensures.numbers (c.in_ok-set.ensures.kept number (own_number number)) (there ∙ ap Some known) c.loop-i.invariant.sets;
-    }
+loop-i-preserved c = record {
+  known = c.in_ok-set.ensures.known;
+  sets = first_more (configuration_of c.args.subject.now.start.now) c.loop-i.table.keys c.first_set.new.table.keys c.loop-i.i (map (λ set. set.items) c.loop-i.sets.items) _ c.in_ok-set.set.items
+      (ap (map (λ set. set.items)) c.in_ok-push.ensures.items ∙ map_push (λ set. set.items) c.loop-i.sets.items c.in_ok-set.set)
+      c.in_ok-set.ensures.table c.in_ok-set.ensures.numbers c.in_ok-set.ensures.own c.loop-i.invariant.sets;
+}
 
 pub returns-clause-node : goal.returns-clause-node
 returns-clause-node c =
     let spec = c.args.subject.now.spec.now in
+    let room = configuration_of c.args.subject.now.start.now in
     let sets = map (λ set. set.items) c.loop-i.sets.items in
     let all : c.loop-i.i ≡ spec.simulators = omega (arith, c.loop-i-test.false, c.loop-i.auto.i-end, c.m-i-end.ensures.value) in
-    let zeros = c.in_ok-words.ensures.items_if_clones_equal (λ y same. same) ∙ ap (λ (count : ℕ). replicate count 0) (c.words.ensures.value ∙ ap words_of c.shape.ensures.sizes) in
-    let long = ap (λ (l : List ℕ). length l) zeros ∙ length-replicate (words_of (sizes_in spec)) 0 in
-    first_is spec c.loop-i.table.keys c.new-2.result sets (ap (λ (l : List ℕ). length l) c.new-2.ensures.words ∙ long) c.new-2.ensures.sets
-    (subst (λ (count : ℕ). AreFirstSets spec c.loop-i.table.keys count sets) all c.loop-i.invariant.sets)
+    let words : AreWords spec c.in_ok-words.words.items =
+    ap (λ (l : List ℕ). length l) c.in_ok-words.ensures ∙ c.words.ensures.count ∙ ap (λ (s : RoomSpec). words_of (sizes_in s)) c.requires.same in
+    first_is spec room c.loop-i.table.keys c.new.result sets (ap (λ (l : List ℕ). length l) c.new.ensures.words ∙ words) c.new.ensures.sets
+    (subst (λ (count : ℕ). AreFirstSets room c.loop-i.table.keys count sets) all c.loop-i.invariant.sets)
 
-pub returns-clause-opening : goal.returns-clause-opening
-returns-clause-opening c =
+pub returns-clause-start : goal.returns-clause-start
+returns-clause-start c =
     let spec = c.args.subject.now.spec.now in
+    let room = configuration_of c.args.subject.now.start.now in
     let sets = map (λ set. set.items) c.loop-i.sets.items in
     let all : c.loop-i.i ≡ spec.simulators = omega (arith, c.loop-i-test.false, c.loop-i.auto.i-end, c.m-i-end.ensures.value) in
-    let zeros = c.in_ok-words.ensures.items_if_clones_equal (λ y same. same) ∙ ap (λ (count : ℕ). replicate count 0) (c.words.ensures.value ∙ ap words_of c.shape.ensures.sizes) in
-    first_in spec c.loop-i.table.keys c.new-2.result sets (c.new-2.ensures.words ∙ zeros) c.new-2.ensures.sets
-    (subst (λ (count : ℕ). AreFirstSets spec c.loop-i.table.keys count sets) all c.loop-i.invariant.sets)
+    let count : c.loop-i.i ≡ room.spec.simulators = all ∙ ap (λ (s : RoomSpec). s.simulators) (sym c.requires.same) in
+    first_in room c.loop-i.table.keys c.new.result sets (c.new.ensures.words ∙ c.in_ok-words.ensures ∙ c.words.ensures.value) c.new.ensures.sets
+    (subst (λ (n : ℕ). AreFirstSets room c.loop-i.table.keys n sets) count c.loop-i.invariant.sets)

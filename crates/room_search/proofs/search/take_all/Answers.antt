@@ -2,6 +2,7 @@ use Rattle.std.proofs.Common.{◌≡◌, ◌<◌, ◌∙◌, inl, inr, ℕ, List
 use Rattle.std.specs.Prelude.{slice_get}
 use Rattle.std.proofs.lemmas.Bool.{cases_eq}
 use Rattle.std.proofs.lemmas.Option.{get_or_from_slice_get}
+use Rattle.room_search.specs.Beginnings.{begun}
 use Rattle.room_search.specs.Nodes.{Node}
 use Rattle.room_search.specs.Taking.{IsTaken}
 use Rattle.room_search.proofs.Noting.{taken_grown}
@@ -13,7 +14,7 @@ slice_get_at : (list : List ℕ) (place one : ℕ) → place < length list → g
 slice_get_at list place one inside is = let there = item_there list place inside in there.1 ∙ ap Some (sym (get_or_from_slice_get list place there.0 one there.1) ∙ is)
 
 pub take_first-requires-clause-taking : goal.take_first-requires-clause-taking
-take_first-requires-clause-taking c = c.nothing-taking.ensures c.args.subject.now.spec.now c.args.crashes
+take_first-requires-clause-taking c = c.nothing-taking.ensures c.args.subject.now.spec.now (begun c.args.subject.now.spec.now c.args.subject.now.acts.now) c.args.crashes
 
 pub loop-place-preserved : goal.loop-place-preserved
 loop-place-preserved c =

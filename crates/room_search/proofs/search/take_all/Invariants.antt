@@ -1,13 +1,14 @@
 use Rattle.std.proofs.Common.{◌≡◌, ◌<◌, ◌⊎◌, ℕ, Some}
 use Rattle.std.specs.Prelude.{slice_get}
 use Rattle.std.specs.List.{Contains}
+use Rattle.room_search.specs.Beginnings.{begun}
 use Rattle.room_search.specs.Nodes.{Node}
 use Rattle.room_search.specs.Taking.{IsTaken, IsTaking}
 use Rattle.room_search.proofs.search.take_all.Given as goal
 
 abbrev pub invariant-loop-place : goal.invariant-loop-place
 invariant-loop-place l = record {
-  taking : IsTaking l.subject.spec.now l.crashes l.taking;
+  taking : IsTaking l.subject.spec.now (begun l.subject.spec.now l.subject.acts.now) l.crashes l.taking;
   first : (k : ℕ) (node : Node) → slice_get l.explored.nodes.items k ≡ Some node → IsTaken l.subject.spec.now l.crashes l.explored.table.keys l.taking.done.keys node ⊎ Contains l.left.items k;
   rest : l.missed ≡ 0 → (p k : ℕ) (node : Node) → p < l.place → slice_get l.left.items p ≡ Some k → slice_get l.explored.nodes.items k ≡ Some node → IsTaken l.subject.spec.now l.crashes l.explored.table.keys l.taking.done.keys node;
 }

@@ -1,12 +1,11 @@
-use Rattle.std.proofs.Common.{List, ◌∷◌, [], refl, sym, subst}
+use Rattle.std.proofs.Common.{List, refl, sym, subst}
 use Rattle.std.specs.Prelude.{MatchOption, Option}
 use Rattle.std.specs.List.{Contains}
-use Rattle.std.proofs.lemmas.List.Elements.{Contains-append_left, Contains-push}
+use Rattle.std.proofs.lemmas.List.Elements.{Contains-push}
 use Rattle.std.proofs.lemmas.Option.{slice_get_within}
 use Rattle.simulator.specs.declared.knowledge.Knowledge.{Knowledge}
-use Rattle.room_core.specs.Rooms.{opening}
 use Rattle.room_search.specs.declared.stepping.Stepped.{Stepped}
-use Rattle.room_search.specs.Nodes.{AreKnowledge, AreNodes, IsIn, Node}
+use Rattle.room_search.specs.Nodes.{AreKnowledge, AreNodes, Node}
 use Rattle.room_search.specs.Searches.{IsMade}
 use Rattle.room_search.specs.Steps.{HasStep, IsStepOf}
 use Rattle.room_search.proofs.Searching.{below_itself, lead_made, lead_stays, no_lead, node_there, nodes_push}
@@ -63,11 +62,6 @@ returns-in_ok-add-clause-searched c =
       known = subst (AreKnowledge spec) (sym c.in_ok-add.ensures.table) searched.known;
       nodes = subst (λ (t : List Knowledge). AreNodes spec t c.add.new.self.nodes.items) (sym c.in_ok-add.ensures.table)
           (subst (AreNodes spec table) (sym c.in_ok-add.ensures.nodes) (nodes_push spec table nodes c.in_ok-to.to searched.nodes made.is));
-      first = (
-        searched.first.0,
-        subst (λ (l : List Node). Contains l searched.first.0) (sym c.in_ok-add.ensures.nodes) (Contains-append_left nodes (c.in_ok-to.to ∷ []) searched.first.0 searched.first.1),
-        subst (λ (t : List Knowledge). IsIn t searched.first.0 (opening spec)) (sym c.in_ok-add.ensures.table) searched.first.2,
-      );
     }
 
 pub returns-in_ok-add-clause-leads : goal.returns-in_ok-add-clause-leads

@@ -1,7 +1,7 @@
 use Rattle.std.proofs.Common.{◌≡◌, ℕ, map, subst, ◌∙◌}
 use Rattle.std.proofs.lemmas.Option.{get_or_from_slice_get, slice_get_within}
 use Rattle.room_search.specs.Nodes.{AreSetsAfter, Grows, Node}
-use Rattle.room_search.proofs.Searching.{in_grown, known_grown, made_of, nodes_grown}
+use Rattle.room_search.proofs.Searching.{known_grown, made_of, nodes_grown}
 use Rattle.room_search.proofs.Sets.{at_index, grows_on, node_grown}
 use Rattle.room_search.proofs.explored.Explored.made.Goals as goal
 
@@ -19,11 +19,9 @@ sets_after-requires-clause-number c = slice_get_within c.numbered.new.table.keys
 pub returns-clause-searched : goal.returns-clause-searched
 returns-clause-searched c =
     let grown : Grows c.args.self.now.table.keys c.sets_after.new.table.keys = grows_on c.args.self.now.table.keys c.numbered.new.table.keys c.sets_after.new.table.keys c.in_ok-number.ensures.grown c.in_ok-sets.ensures.table in
-    let first = c.requires.searched.first in
     record {
       known = c.in_ok-sets.ensures.known;
       nodes = nodes_grown c.args.subject.now.spec.now c.args.self.now.table.keys c.sets_after.new.table.keys c.args.self.now.nodes.items grown c.requires.searched.nodes;
-      first = (first.0, first.1, in_grown c.args.self.now.table.keys c.sets_after.new.table.keys first.0 _ grown first.2);
     }
 
 pub returns-clause-made : goal.returns-clause-made

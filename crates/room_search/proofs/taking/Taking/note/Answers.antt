@@ -1,13 +1,16 @@
 use Rattle.std.proofs.Common.{◌≡◌, ℕ, List, inl, inr, sym, ◌∙◌, subst}
 use Rattle.std.specs.Global.{Vec}
 use Rattle.std.specs.List.{Contains}
-use Rattle.run_search.specs.Outcomes.{Ends}
+use Rattle.room_spec.specs.Rooms.{processes}
+use Rattle.run_search.specs.Outcomes.{Ends, IsRunOutcome}
 use Rattle.room_outcomes.specs.Ends.{ends_of}
 use Rattle.room_search.specs.declared.reached.Reached.{Reached}
 use Rattle.room_search.specs.Reaching.{IsFound}
+use Rattle.room_search.specs.Beginnings.{begun}
 use Rattle.room_search.specs.Ends.{AreEndsFound}
 use Rattle.room_search.specs.Taking.{AreAmong, AreKept, Includes}
-use Rattle.room_search.proofs.Noting.{reached_same, room_found, room_outcome}
+use Rattle.room_search.proofs.Going.{begun_spec}
+use Rattle.room_search.proofs.Noting.{room_among, room_found, room_reached, spec_from}
 use Rattle.room_search.proofs.Said.{found_grown}
 use Rattle.room_search.proofs.taking.Taking.note.Goals as goal
 
@@ -18,6 +21,10 @@ returns-clause-taking c =
     let schedule = c.args.settled.schedule.items in
     let states = c.process_states-states.result in
     let read = c.process_states-states.ensures in
+    let start = begun spec c.args.subject.now.acts.now in
+    let same_spec = spec_from spec start c.args.crashes schedule room (begun_spec spec c.args.subject.now.acts.now) c.requires.settled in
+    let fields = c.spec-spec.ensures.fields in
+    let limits = c.shape-shape.ensures.limits in
     let old = c.args.self.now.outcomes.items in
     let new = c.mark.new.self.outcomes.items in
     let same = c.in_ok-mark.ensures.outcomes in
@@ -29,15 +36,17 @@ returns-clause-taking c =
       kept = kept;
       reached = λ other there. elim (c.in_ok-keep.ensures.new other (subst (λ (l : List Reached). Contains l other) same there)) [
         | inl before ↦ c.requires.taking.reached other before
-        | inr now ↦
-            reached_same spec c.args.crashes (record { states = states; schedule = c.args.settled.schedule }) other now.0 now.1
-            (room_outcome spec c.args.crashes schedule room states.items c.requires.settled read)
+        | inr now ↦ room_reached start c.args.crashes room (record { states = states; schedule = c.args.settled.schedule }) other c.requires.settled read now.0 now.1
+      ];
+      among = λ other there. elim (c.in_ok-keep.ensures.new other (subst (λ (l : List Reached). Contains l other) same there)) [
+        | inl before ↦ c.requires.taking.among other before
+        | inr now ↦ subst (λ s. IsRunOutcome spec (processes spec) (ends_of s.items)) (sym now.0) (room_among spec room fields.0 states.items limits same_spec fields.1 read)
       ];
       done = λ one there. elim (c.in_ok-mark.ensures.new one there) [
         | inl before ↦ found_grown spec old new one.items grown (c.requires.taking.done one (subst (λ (l : List (Vec ℕ)). Contains l one) c.in_ok-keep.ensures.done before))
         | inr is ↦
             subst (AreEndsFound spec new) (sym words_are ∙ is)
-            (room_found spec c.args.crashes schedule room new states.items c.shape-shape.ensures.limits c.requires.settled read found)
+            (room_found spec room fields.0 new states.items limits same_spec fields.1 read found)
       ];
     }
 

@@ -8,7 +8,7 @@ use Rattle.room_search.proofs.Said.{said_found}
 use Rattle.room_search.proofs.taking.Taking.note_said.Goals as goal
 
 pub returns-clause-taking : goal.returns-clause-taking
-returns-clause-taking c = λ crashes taking.
+returns-clause-taking c = λ start crashes taking.
     let spec = c.args.subject.now.spec.now in
     let outcomes = c.in_ok-mark.ensures.outcomes in
     let said = c.has_found.ensures c.if-not-has_found.false in
@@ -16,6 +16,7 @@ returns-clause-taking c = λ crashes taking.
     record {
       kept = subst (λ (l : List Ends). AreKept l c.mark.new.self.outcomes.items) (sym c.in_ok-mark.ensures.ends) (subst (AreKept c.args.self.now.ends.keys) (sym outcomes) taking.kept);
       reached = λ other there. taking.reached other (subst (λ (l : List Reached). Contains l other) outcomes there);
+      among = λ other there. taking.among other (subst (λ (l : List Reached). Contains l other) outcomes there);
       done = λ one there. subst (λ (l : List Reached). AreEndsFound spec l one.items) (sym outcomes)
           (elim (c.in_ok-mark.ensures.new one there) [
             | inl before ↦ taking.done one before

@@ -1,8 +1,9 @@
 use Rattle.std.proofs.Common.{◌≡◌, ◌<◌, ◌≤◌, ℕ, Some, get_or}
 use Rattle.std.specs.Prelude.{slice_get}
-use Rattle.run_search.specs.Limits.{IsNotBelow}
+use Rattle.run_search.specs.Limits.{HasMarks, IsNotBelow, no_entry}
 use Rattle.run_search.specs.Nodes.{Node}
 use Rattle.run_search.proofs.explored.Explored.has_above.Given as goal
 
-abbrev pub invariant-loop-index : goal.invariant-loop-index
-invariant-loop-index l = (k : ℕ) → k < l.index-index → (one : Node) → l.from ≤ get_or l.index-items k 0 → slice_get l.self.nodes.items (get_or l.index-items k 0) ≡ Some one → IsNotBelow l.node one
+abbrev pub invariant-loop-entry : goal.invariant-loop-entry
+invariant-loop-entry l =
+    (k : ℕ) → k < l.entry-index → (one : Node) → l.from ≤ (get_or l.entry-items k no_entry).index → slice_get l.self.nodes.items (get_or l.entry-items k no_entry).index ≡ Some one → HasMarks one (get_or l.entry-items k no_entry).marks → IsNotBelow l.node one

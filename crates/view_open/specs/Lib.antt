@@ -1,0 +1,5 @@
+pub mod Logs
+pub mod Open
+pub mod Texts
+pub mod Json
+pub mod Watched
