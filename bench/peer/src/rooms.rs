@@ -1,4 +1,4 @@
-//! `rooms`: how many nodes stand for all rooms to which schedules of a room's simulators lead, and how many outcomes these reach with a number of crashes at
+//! `rooms`: how many nodes have all rooms to which schedules of a room's simulators lead, and how many outcomes these reach with a number of crashes at
 //! most. A node is what the memory shows of each simulator, and the states that each may be in there. This is the search of `bgview outcomes --rooms` in plain
 //! Rust, to compare counts, times and instructions: it keeps no schedules, and leaves out words that nobody can read. Rooms have one word of memory here, and
 //! turns enough.
