@@ -67,7 +67,7 @@ pub fn show<H: Threads + Sync, I, P: Progress>(
             aside.notes = script_faults(alloc, input)?;
             Ok(draw(alloc, *style, input)?)
         }
-        Request::Page(paging) => paged(alloc, paging, input, &mut aside.notes),
+        Request::Page(paging) => paged(alloc, paging, input, aside),
         Request::Transcript => {
             aside.notes = script_faults(alloc, input)?;
             Ok(transcribe(alloc, input)?)
@@ -75,7 +75,7 @@ pub fn show<H: Threads + Sync, I, P: Progress>(
         Request::Grade(grading) => grade_or_note(alloc, grading, input, &mut aside.notes),
         Request::Sample(sampling) => sample_or_fail(system, sampling, input, aside),
         Request::Outcomes(searching) => search_or_fail(alloc, searching, input, aside),
-        Request::Open(searching) => open_or_fail(alloc, searching, input, &mut aside.notes),
+        Request::Open(searching) => open_or_fail(alloc, searching, input, aside),
         Request::Lint { json } => linted(alloc, *json, input, &mut aside.notes),
     }
 }
@@ -105,27 +105,27 @@ fn linted(alloc: Global, json: bool, input: &[u8], notes: &mut Text) -> Result<P
     Ok(whole(lint(alloc, input)?))
 }
 
-/// A page of a file, unless the options are not valid. What is said of the file becomes `notes`.
-fn paged(
+/// A page of a file, unless the options are not valid. What is said of the file becomes the notes of `aside`.
+fn paged<P: Progress>(
     alloc: Global,
     paging: &Paging<'_>,
     input: &[u8],
-    notes: &mut Text,
+    aside: &mut Aside<P>,
 ) -> Result<PlayText, ViewFault>
     requires { length input.now ≤ most_bytes }
     ensures shown { IfOk result (λ shown. IsPageShown paging.now input.now shown.ending shown.output) }
     ensures err { IfErr result (Ends (page_fault paging.now input.now) (paging_fault paging.now)) }
-    ensures notes { ArePageNotes paging.now input.now result notes.new }
+    ensures notes { ArePageNotes paging.now input.now result aside.new.notes }
 {
     match (paging.keeps, paging.search) {
         (None, None) => {
-            *notes = said_of_file(alloc, input)?;
+            aside.notes = said_of_file(alloc, input)?;
             Ok(page(alloc, input)?)
         }
-        (Some(text), None) => paged_by_task(alloc, text, input, notes),
+        (Some(text), None) => paged_by_task(alloc, text, input, &mut aside.notes),
         (None, Some(plan)) => {
-            *notes = script_faults(alloc, input)?;
-            Ok(page_of_open(alloc, input, &plan)?)
+            aside.notes = script_faults(alloc, input)?;
+            Ok(page_of_open(alloc, input, &plan, &mut aside.progress)?)
         }
         (Some(_), Some(_)) => Err(ViewFault::BadOption(OptionFault::OpenTask)),
     }
@@ -435,24 +435,25 @@ fn is_json(form: Form) -> bool
     matches!(form, Form::Json)
 }
 
-/// Says which outcomes are open after each command of a script, unless something is asked for that is none of them. What is said of the script's faults becomes `notes`.
-fn open_or_fail(
+/// Says which outcomes are open after each command of a script, unless something is asked for that is none of them. What is said of the script's faults becomes the notes
+/// of `aside`.
+fn open_or_fail<P: Progress>(
     alloc: Global,
     searching: &Searching<'_>,
     script: &[u8],
-    notes: &mut Text,
+    aside: &mut Aside<P>,
 ) -> Result<PlayText, ViewFault>
     requires { length script.now ≤ most_bytes }
     ensures shown { IfOk result (λ shown. IsOpenFor (open_plan searching.now) script.now shown.ending shown.output) }
     ensures err { IfErr result (Ends (fault_in (script_says script.now)) (open_fault searching.now)) }
-    ensures notes { AreScriptNotes script.now result notes.new }
+    ensures notes { AreScriptNotes script.now result aside.new.notes }
 {
     if is_more_of_open(searching) {
         return Err(ViewFault::BadOption(OptionFault::Open));
     }
-    *notes = script_faults(alloc, script)?;
+    aside.notes = script_faults(alloc, script)?;
     let plan = open_plan(searching);
-    Ok(open_outcomes(alloc, &plan, script)?)
+    Ok(open_outcomes(alloc, &plan, script, &mut aside.progress)?)
 }
 
 /// Whether something is asked for that is none of the outcomes that are open in the rooms of a script.

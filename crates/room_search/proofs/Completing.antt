@@ -1,8 +1,8 @@
 -- A search whose nodes have all rooms finds all outcomes.
-use Rattle.std.proofs.Common.{◌≡◌, ℕ, ◌<◌, ◌≤◌, Bool, true, false, cond, not, is_some, List, [], ◌∷◌, length, get_or, Option, None, refl, sym, ap, ◌∙◌, subst, arith}
-use Rattle.std.specs.Global.{Vec}
+use Rattle.std.proofs.Common.{◌≡◌, ℕ, ◌<◌, ◌≤◌, Bool, true, false, cond, not, is_some, List, [], ◌∷◌, length, get_or, set, Option, None, refl, sym, ap, ◌∙◌, subst, arith, inl, inr}
 use Rattle.std.specs.List.{Contains}
-use Rattle.std.proofs.lemmas.List.{get_or-map, length-map}
+use Rattle.std.proofs.lemmas.Bool.{cases_eq, cases_lt, true≢false}
+use Rattle.std.proofs.lemmas.List.{get_or-map, get_or-set_other, get_or-set_same, get_or_past, length-map}
 use Rattle.std.proofs.lemmas.List.FromFn.{get_or-map-range_with_len, length-map-range_with_len}
 use Rattle.room_spec.specs.Rooms.{RoomSpec, IsWithinLimits, processes}
 use Rattle.room_spec.specs.Sizes.{sizes_in}
@@ -12,24 +12,27 @@ use Rattle.safe_agreement.proofs.CallerLemmas.{has_level_at}
 use Rattle.view_table.specs.declared.place.Place.TheVariants as places
 use Rattle.view_table.specs.Words.{word_at}
 use Rattle.simulator.specs.declared.knowledge.Knowledge.{Knowledge}
+use Rattle.room_search.specs.declared.local.Local.{Local}
 use Rattle.simulator.specs.declared.goal.Goal.{Goal}
-use Rattle.simulator.specs.Knowing.{knowledge_of}
+use Rattle.simulator.specs.Knowing.{knowledge_of, mind_of}
 use Rattle.simulator.specs.Minds.{MindOf, MindState, goal_at, opening_mind}
 use Rattle.simulator.specs.Sweeps.{SweepState, opening_sweep}
 use Rattle.room_core.specs.Calls.{RoomState, Settle, configuration_of, room_after_settle, sweep_at}
 use Rattle.room_core.specs.Fields.{Fields, StepMap, fields_after_settle}
 use Rattle.room_core.specs.Reading.{AgreeIn, AreFieldsOf, fields_in}
-use Rattle.room_core.specs.Rooms.{mind_at}
+use Rattle.room_core.specs.Rooms.{Configuration, ScheduleEvent, crashed_at, crashed_by, crashes, mind_at, replay, stepped, steps}
 use Rattle.room_core.specs.Settled.{HasTurnLeft, IsSettledInMind, mind_decided, mind_spent, mind_waits}
 use Rattle.room_core.proofs.CallerLemmas.{agrees, calls_in_fields, shapes}
 use Rattle.room_core.proofs.CallerLemmasOnSpecs.{same_spec}
 use Rattle.run_search.specs.declared.ended.Ended.{Ended}
 use Rattle.room_search.specs.declared.reached.Reached.{Reached}
-use Rattle.room_search.specs.Nodes.{CoverAllRooms, IsIn, Node}
+use Rattle.room_search.specs.Continuing.{Continues}
+use Rattle.room_search.specs.Nodes.{CoverAllRooms, IsIn, MayHave, Node}
 use Rattle.room_search.specs.Reaching.{IsFound, IsOpen, IsReachable, outcome_of}
-use Rattle.room_search.specs.Resting.{is_unresolved, waits}
-use Rattle.room_search.specs.Ends.{AreEndsFound}
-use Rattle.room_search.specs.Taking.{AreAmong, IsTaken, MayRest}
+use Rattle.room_search.specs.Resting.{Rests, is_unresolved, waits}
+use Rattle.room_search.specs.Ends.{ends_by}
+use Rattle.room_search.specs.Taking.{IsTaken, MayEnd}
+use Rattle.room_search.proofs.Ending.{room_ends}
 use Rattle.room_search.proofs.Going.{settles_on}
 
 -- ---- a mind that is settled rests
@@ -66,32 +69,57 @@ module _ (room : RoomState) (fields : Fields) (limits : IsWithinLimits room.spec
   goals_are : (i : ℕ) → i < room.spec.simulators → (fields.mind i).goals ≡ (mind_at (configuration_of room) i).goals
   goals_are i below = sym (ap (λ (m : MindState). m.goals) (mind_here i below) ∙ ap (λ (m : MindOf StepMap). m.goals) (agree.mind i below).rest)
 
+-- ---- who has crashed stays so
+
+set_stays : (crashed : List Bool) (i q : ℕ) → get_or crashed i false ≡ true → get_or (set crashed q true) i false ≡ true
+set_stays crashed i q is = elim (cases_eq i q) [
+  | inr other ↦ get_or-set_other crashed q i true false other ∙ is
+  | inl same ↦ elim (cases_lt q (length crashed)) [
+    | inl inside ↦ ap (λ (k : ℕ). get_or (set crashed q true) k false) same ∙ get_or-set_same crashed q true false inside
+    | inr past ↦ absurd (true≢false (sym is ∙ ap (λ (k : ℕ). get_or crashed k false) same ∙ get_or_past crashed q false past))
+  ]
+]
+
+crashed_stays : (room : Configuration) (events : List ScheduleEvent) (i : ℕ) → crashed_at room i ≡ true → crashed_at (replay room events) i ≡ true
+crashed_stays room [] i is = is
+crashed_stays room (steps q ∷ events) i is = crashed_stays (stepped room q) events i is
+crashed_stays room (crashes q ∷ events) i is = crashed_stays (crashed_by room q) events i (set_stays room.crashed i q is)
+
+has_crashed_since : (start room : Configuration) (i : ℕ) → Continues start room → crashed_at start i ≡ true → crashed_at room i ≡ true
+has_crashed_since start room i goes is = ap (λ (r : Configuration). crashed_at r i) (sym goes.leads) ∙ crashed_stays start goes.events i is
+
 -- ---- the outcome of each room is found
 
--- a simulator for which each process is settled may rest in a node that has the room
-rest_in : (spec : RoomSpec) (table : List Knowledge) (node : Node) (room : RoomState) (fields : Fields) (i : ℕ) → IsWithinLimits room.spec → room.spec ≡ spec → AreFieldsOf room fields → IsIn table node (configuration_of room) → i < spec.simulators → fields.crashed i ≡ false
-    → ((j : ℕ) → j < processes spec → IsSettledInMind spec fields i j) → MayRest spec table node i
-rest_in spec table node room fields i limits is are here below alive settled =
+-- a simulator for which each process is settled can go no further, where a node that has the room has it
+rest_in : (spec : RoomSpec) (start : Configuration) (table : List Local) (node : Node) (room : RoomState) (fields : Fields) (i : ℕ) → IsWithinLimits room.spec → room.spec ≡ spec → AreFieldsOf room fields → Continues start (configuration_of room) → IsIn table node (configuration_of room) → i < spec.simulators
+    → (fields.crashed i ≡ false → (j : ℕ) → j < processes spec → IsSettledInMind spec fields i j) → MayEnd spec start table node i (fields.crashed i) room.words
+rest_in spec start table node room fields i limits is are goes here below settled =
     let inside : i < room.spec.simulators = subst (λ (s : RoomSpec). i < s.simulators) (sym is) below in
-    let list = (mind_at (configuration_of room) i).goals in (
-      knowledge_of (mind_at (configuration_of room) i),
-      here.each i inside ((agree room fields limits are).crashed i inside ∙ alive),
-      λ j process.
-          subst (λ (s : RoomSpec). waits s node.words j (goal_at list j) ≡ true) is
-          (subst (λ (w : List ℕ). waits room.spec w j (goal_at list j) ≡ true) (sym here.words)
+    let mind = mind_at (configuration_of room) i in
+    let has : MayHave room.spec table node i (knowledge_of mind) room.words = here.each i inside in
+    let list = mind.goals in
+    let goals : (mind_of has.local.known).goals ≡ list = ap (λ (k : Knowledge). (mind_of k).goals) has.known_is in
+    record {
+      local = has.local;
+      may = has.may;
+      own = has.own;
+      rests = λ alive. subst (Rests spec room.words) (sym goals)
+          (λ j process.
+          subst (λ (s : RoomSpec). waits s room.words j (goal_at list j) ≡ true) is
           (rests_by room fields limits are i j list (subst (λ (s : RoomSpec). j < processes s) (sym is) process) (ap (λ (l : List Goal). goal_at l j) (goals_are room fields limits are i inside))
-          (subst (λ (s : RoomSpec). IsSettledInMind s fields i j) (sym is) (settled j process)))),
-    )
+          (subst (λ (s : RoomSpec). IsSettledInMind s fields i j) (sym is) (settled alive j process))));
+      had = λ was. sym ((agree room fields limits are).crashed i inside) ∙ has_crashed_since start (configuration_of room) i goes was;
+    }
 
 abbrev pub Settles : Type 0
 Settles = (room : RoomState) (fields : Fields) → IsWithinLimits room.spec → AreFieldsOf room fields → (left : HasTurnLeft room.spec (fields_after_settle room.spec fields)) → (j : ℕ) → j < processes room.spec
     → IsSettledInMind room.spec (fields_after_settle room.spec fields) left.simulator j
 
-pub found_all : (spec : RoomSpec) (crashes : ℕ) (start : RoomState) (table : List Knowledge) (nodes : List Node) (done : List (Vec ℕ)) (outcomes : List Reached) → IsWithinLimits spec → Settles → CoverAllRooms (configuration_of start) table nodes
-    → ((node : Node) → Contains nodes node → IsTaken spec crashes table done node) → ((words : List ℕ) → AreAmong done words → AreEndsFound spec outcomes words)
-    → (outcome : List Ended) → IsOpen start spec crashes outcome → IsFound outcomes outcome
-found_all spec crashes start table nodes done outcomes limits settles covers taken runs outcome opened =
-    let is : IsReachable spec crashes outcome = opened.reachable in
+pub found_all : (spec : RoomSpec) (most : ℕ) (start : RoomState) (table : List Local) (nodes : List Node) (outcomes : List Reached) → IsWithinLimits spec → Settles → CoverAllRooms (configuration_of start) table nodes
+    → ((node : Node) → Contains nodes node → IsTaken spec (configuration_of start) most table outcomes node) → (outcome : List Ended) → IsOpen start spec most outcome → IsFound outcomes outcome
+found_all spec most start table nodes outcomes limits settles covers taken outcome opened =
+    let is : IsReachable spec most outcome = opened.reachable in
+    let first = configuration_of start in
     let room = is.room in
     let room_limits : IsWithinLimits room.spec = subst IsWithinLimits (sym is.of_room) limits in
     let after = room_after_settle room in
@@ -99,15 +127,16 @@ found_all spec crashes start table nodes done outcomes limits settles covers tak
     let after_is : after.spec ≡ spec = same_spec room Settle ∙ is.of_room in
     let are : AreFieldsOf after fields = subst (λ (s : RoomSpec). AreFieldsOf after (fields_after_settle s is.fields)) is.of_room (calls_in_fields room is.fields (Settle ∷ []) room_limits is.are).1 in
     let after_limits : IsWithinLimits after.spec = subst IsWithinLimits (sym after_is) limits in
-    let covered = covers (configuration_of after) (settles_on (configuration_of start) room room_limits is.are.run opened.goes_on) in
+    let goes : Continues first (configuration_of after) = settles_on first room room_limits is.are.run opened.goes_on in
+    let covered = covers (configuration_of after) goes in
     let node = covered.0 in
     let here = covered.2 in
-    let rests : (i : ℕ) → i < spec.simulators → fields.crashed i ≡ false → MayRest spec table node i = λ i below alive.
-    rest_in spec table node after fields i after_limits after_is are here below alive
-    (λ j process.
+    let rests : (i : ℕ) → i < spec.simulators → MayEnd spec first table node i (fields.crashed i) after.words = λ i below.
+    rest_in spec first table node after fields i after_limits after_is are goes here below
+    (λ alive j process.
     subst (λ (s : RoomSpec). IsSettledInMind s (fields_after_settle s is.fields) i j) is.of_room
     (settles room is.fields room_limits is.are
     (subst (λ (s : RoomSpec). HasTurnLeft s (fields_after_settle s is.fields)) (sym is.of_room) (record { simulator = i; below = below; alive = alive; turns = is.turns i below alive }))
     j (subst (λ (s : RoomSpec). j < processes s) (sym is.of_room) process))) in
-    let found = runs node.words (taken node covered.1 fields.crashed is.few rests) after fields after_is are (sym here.words) in
-    (found.0, found.1, ◌∙◌ {c = outcome_of found.0} is.outcome_is found.2)
+    let found : IsFound outcomes (ends_by spec after.words) = taken node covered.1 fields.crashed after.words is.few here.says here.says (λ i low high. rests i (omega (arith, high))) in
+    (found.0, found.1, ◌∙◌ {c = outcome_of found.0} (is.outcome_is ∙ room_ends spec after fields limits after_is are) found.2)

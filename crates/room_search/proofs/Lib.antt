@@ -1,6 +1,11 @@
 mod Steps
+mod Stored
+mod Enough
+mod WordsRead
+mod Ranges
 mod Growing
 mod Sets
+mod Moving
 mod Same
 mod Covering
 mod Going
@@ -9,7 +14,8 @@ mod Ending
 mod Completing
 mod Taken
 mod Finding
-mod Said
 mod Noting
+mod Alike
 mod Scheduling
 mod OneByOne
+mod Arriving

@@ -1,29 +1,32 @@
 -- One room more is run, and one node more is taken.
-use Rattle.std.proofs.Common.{◌≡◌, ℕ, ◌+◌, ◌<◌, ◌≤◌, get_or, inl, inr, true, List, [], ◌∷◌, ◌++◌, length, filter, Option, None, is_none, sym, ap, ◌∙◌, subst, arith}
-use Rattle.std.specs.Global.{Vec}
-use Rattle.std.specs.List.{count_by, range_with_len}
-use Rattle.std.proofs.lemmas.Bool.{cases_Bool, cases_eq}
-use Rattle.std.proofs.lemmas.List.{get_or_append_left, get_or_push}
+use Rattle.std.proofs.Common.{◌≡◌, ◌⊎◌, inl, inr, ℕ, zero, suc, ◌+◌, ◌<◌, ◌≤◌, Bool, true, false, cond, List, ◌∷◌, length, filter, get_or, Some, refl, sym, ap, ◌∙◌, subst, arith}
+use Rattle.std.specs.Prelude.{slice_get}
+use Rattle.std.specs.List.{Contains, range_with_len}
+use Rattle.std.proofs.lemmas.Bool.{true≢false}
+use Rattle.std.proofs.lemmas.Option.{get_or_from_slice_get, slice_get-get_or}
 use Rattle.room_spec.specs.Rooms.{IsWithinLimits, RoomSpec, processes}
-use Rattle.simulator.specs.declared.knowledge.Knowledge.{Knowledge}
 use Rattle.room_core.specs.Calls.{RoomState}
 use Rattle.room_core.specs.Fields.{Fields}
 use Rattle.room_core.specs.Reading.{AreFieldsOf}
+use Rattle.room_core.specs.Rooms.{Configuration}
 use Rattle.ws_history.specs.Reports.{report_of, states_of}
 use Rattle.ws_history.specs.declared.states.ProcessState.{ProcessState}
 use Rattle.room_outcomes.specs.Ends.{ends_of}
 use Rattle.room_outcomes.proofs.CallerLemmas.{reported_outcome}
 use Rattle.room_sample.specs.Schedules.{IsSchedule, crashes_in}
 use Rattle.room_sample.specs.declared.stretch.Stretch.{Stretch}
-use Rattle.room_search.specs.declared.reached.Reached.{Reached}
-use Rattle.room_search.specs.Nodes.{Node}
 use Rattle.run_search.specs.Outcomes.{IsRunOutcome}
+use Rattle.run_search.specs.declared.ended.Ended.{Ended}
+use Rattle.room_search.specs.declared.choice.Choice.{Choice}
+use Rattle.room_search.specs.declared.local.Local.{Local}
+use Rattle.room_search.specs.declared.reached.Reached.{Reached}
 use Rattle.room_search.specs.Beginnings.{crash_count}
+use Rattle.room_search.specs.Ends.{DoEnd, ends_by}
+use Rattle.room_search.specs.Nodes.{MayBe, Node, set_of}
 use Rattle.room_search.specs.Reaching.{IsFound, IsReachedFrom, settled_from}
-use Rattle.room_search.specs.Ends.{AreEndsFound}
-use Rattle.room_search.specs.Taking.{AreAmong, Includes, IsSettledFrom, IsTaken, MayRest}
+use Rattle.room_search.specs.Saying.{DoSay}
+use Rattle.room_search.specs.Taking.{AreFoundFrom, HaveCrashed, Includes, IsChosen, IsNoChoice, IsSettledFrom, IsTaken, MayEnd, MayStand, MustHaveCrashed, crashed_from, one_if}
 use Rattle.room_search.proofs.Going.{settled_spec}
-use Rattle.room_search.proofs.Ending.{ends_same, few_missing, missing_is}
 
 -- ---- a room that was run
 
@@ -43,15 +46,7 @@ room_reached start crashes room one other settled read states schedule = record 
 pub spec_from : (spec : RoomSpec) (start : RoomState) (crashes : ℕ) (schedule : List Stretch) (room : RoomState) → start.spec ≡ spec → IsSettledFrom start crashes schedule room → room.spec ≡ spec
 spec_from spec start crashes schedule room same settled = ap (λ (r : RoomState). r.spec) settled.room_is ∙ settled_spec start schedule ∙ same
 
-pub room_found : (spec : RoomSpec) (room : RoomState) (fields : Fields) (outcomes : List Reached) (states : List ProcessState) → IsWithinLimits spec → room.spec ≡ spec → AreFieldsOf room fields → IsRead room states → IsFound outcomes (ends_of states)
-    → AreEndsFound spec outcomes room.words
-room_found spec room fields outcomes states limits same are read found = λ other others is are_others same_words. (
-  found.0,
-  found.1,
-  ends_same spec other room others fields limits is same same_words are_others are ∙ ap (λ (s : RoomSpec). ends_of (states_of s fields)) (sym same) ∙ ap ends_of (sym (read fields are)) ∙ found.2,
-)
-
--- and its outcome is one of a run of the protocol
+-- its outcome is one of a run of the protocol
 pub room_among : (spec : RoomSpec) (room : RoomState) (fields : Fields) (states : List ProcessState) → IsWithinLimits spec → room.spec ≡ spec → AreFieldsOf room fields → IsRead room states → IsRunOutcome spec (processes spec) (ends_of states)
 room_among spec room fields states limits same are read =
     subst (IsRunOutcome spec (processes spec)) (ap ends_of (sym (read fields are)))
@@ -59,43 +54,122 @@ room_among spec room fields states limits same are read =
 
 -- ---- a node that is taken
 
-pub taken_grown : (spec : RoomSpec) (crashes : ℕ) (table : List Knowledge) (old new : List (Vec ℕ)) (node : Node) → Includes old new → IsTaken spec crashes table old node → IsTaken spec crashes table new node
-taken_grown spec crashes table old new node grown taken = λ crashed few rest. let one = taken crashed few rest in (one.0, grown one.0 one.1, one.2)
+pub found_grown : (old new : List Reached) (outcome : List Ended) → Includes old new → IsFound old outcome → IsFound new outcome
+found_grown old new outcome grown found = (found.0, grown found.0 found.1, found.2)
 
-pub among_taken : (spec : RoomSpec) (crashes : ℕ) (table : List Knowledge) (done : List (Vec ℕ)) (node : Node) → AreAmong done node.words → IsTaken spec crashes table done node
-among_taken spec crashes table done node there = λ crashed few rest. there
+pub from_grown : (spec : RoomSpec) (start : Configuration) (table : List Local) (old new : List Reached) (node : Node) (first count crashes : ℕ) (said : List ℕ) → Includes old new → AreFoundFrom spec start table old node first count crashes said → AreFoundFrom spec start table new node first count crashes said
+from_grown spec start table old new node first count crashes said grown found crashed words few says more may = found_grown old new (ends_by spec words) grown (found crashed words few says more may)
 
-abbrev pub AreNone : RoomSpec → List Knowledge → Node → ℕ → List (Option ℕ) → Type 0
-AreNone spec table node count resting = (k : ℕ) → k < count → get_or resting k None ≡ None → MayRest spec table node k → ⊥
+pub taken_grown : (spec : RoomSpec) (start : Configuration) (crashes : ℕ) (table : List Local) (old new : List Reached) (node : Node) → Includes old new → IsTaken spec start crashes table old node → IsTaken spec start crashes table new node
+taken_grown spec start crashes table old new node grown taken = from_grown spec start table old new node 0 spec.simulators crashes node.said grown taken
 
--- too many can't rest
-pub never_taken : (spec : RoomSpec) (crashes : ℕ) (table : List Knowledge) (done : List (Vec ℕ)) (node : Node) (resting : List (Option ℕ)) → length resting ≡ spec.simulators → AreNone spec table node spec.simulators resting → crashes < count_by is_none resting
-    → IsTaken spec crashes table done node
-never_taken spec crashes table done node resting width none many = λ crashed few rest.
-    let missing = few_missing resting crashed 0 (
-    λ i below absent.
-    let inside : i < spec.simulators = omega (arith, below, width) in
-    let at : i ≡ 0 + i = omega arith in
-    subst (λ (k : ℕ). crashed k ≡ true) at
-    (elim (cases_Bool (crashed i)) [
-      | inl stopped ↦ stopped
-      | inr alive ↦ absurd (none i inside absent (rest i inside alive))
-    ])
-    ) in
-    let missed = missing_is resting in
-    let range = ap (λ (n : ℕ). length (filter crashed (range_with_len 0 n))) width in
-    absurd (omega (arith, missing, missed, range, few, many))
+-- ---- one simulator after the other
 
--- ---- where each may rest, one by one
+-- the outcomes of the rooms in which the next simulator is in this local state
+abbrev pub AreFoundAt : RoomSpec → Configuration → List Local → List Reached → Node → ℕ → ℕ → ℕ → List ℕ → ℕ → Type 0
+AreFoundAt spec start table outcomes node first count crashes said number =
+    (local : Local) → slice_get table number ≡ Some local → (crashed : ℕ → Bool) (words : List ℕ) → crashed_from crashed first (suc count) ≤ crashes → MayStand spec start node first local (crashed first) words → DoSay said words
+    → ((i : ℕ) → first + 1 ≤ i → i < first + 1 + count → MayEnd spec start table node i (crashed i) words) → IsFound outcomes (ends_by spec words)
 
-pub none_more : (spec : RoomSpec) (table : List Knowledge) (node : Node) (count : ℕ) (all after : List (Option ℕ)) (one : Option ℕ) → after ≡ all ++ one ∷ [] → length all ≡ count → (one ≡ None → MayRest spec table node count → ⊥) → AreNone spec table node count all
-    → AreNone spec table node (count + 1) after
-none_more spec table node count all after one is long here before k below none =
-    let read : get_or (all ++ one ∷ []) k None ≡ None = ap (λ (l : List (Option ℕ)). get_or l k None) (sym is) ∙ none in
-    elim (cases_eq k count) [
-      | inr differ ↦ let less : k < count = omega (arith, below, differ) in before k less (sym (get_or_append_left all (one ∷ []) None k (omega (arith, less, long))) ∙ read)
-      | inl equal ↦
-          let last : get_or (all ++ one ∷ []) count None ≡ one = get_or_push all one None count long in
-          let one_is : one ≡ None = sym last ∙ ap (λ (n : ℕ). get_or (all ++ one ∷ []) n None) (sym equal) ∙ read in
-          subst (λ (n : ℕ). MayRest spec table node n → ⊥) (sym equal) (here one_is)
-    ]
+pub at_grown : (spec : RoomSpec) (start : Configuration) (table : List Local) (old new : List Reached) (node : Node) (first count crashes : ℕ) (said : List ℕ) (number : ℕ) → Includes old new → AreFoundAt spec start table old node first count crashes said number → AreFoundAt spec start table new node first count crashes said number
+at_grown spec start table old new node first count crashes said number grown found local is crashed words few stand says may = found_grown old new (ends_by spec words) grown (found local is crashed words few stand says may)
+
+pub crashed_more : (crashed : ℕ → Bool) (first count : ℕ) → crashed_from crashed first (suc count) ≡ one_if (crashed first) + crashed_from crashed (first + 1) count
+crashed_more crashed first count = by (crashed first) refl
+  where
+    by : (b : Bool) → crashed first ≡ b → crashed_from crashed first (suc count) ≡ one_if b + crashed_from crashed (first + 1) count
+    by true is = ap (λ (b : Bool). length (cond b (first ∷ filter crashed (range_with_len (first + 1) count)) (filter crashed (range_with_len (first + 1) count)))) is ∙ omega arith
+    by false is = ap (λ (b : Bool). length (cond b (first ∷ filter crashed (range_with_len (first + 1) count)) (filter crashed (range_with_len (first + 1) count)))) is ∙ omega arith
+
+pub must_crash : (spec : RoomSpec) (start : Configuration) (node : Node) (i : ℕ) (local : Local) → MustHaveCrashed spec start node i local → (crashed : Bool) (words : List ℕ) → MayStand spec start node i local crashed words → 1 ≤ one_if crashed
+must_crash spec start node i local why true words stand = omega arith
+must_crash spec start node i local why false words stand = elim why [
+  | inl had ↦ absurd (true≢false (sym (stand.had had)))
+  | inr never ↦ absurd (never words stand.says (stand.rests refl))
+]
+
+pub left_chosen : (spec : RoomSpec) (start : Configuration) (node : Node) (i : ℕ) (local : Local) (rests : Bool) (old new : ℕ) → (rests ≡ false → MustHaveCrashed spec start node i local) → old ≤ new + 1 → (rests ≡ true → new ≡ old)
+    → (crashed : Bool) (words : List ℕ) → MayStand spec start node i local crashed words → old ≤ new + one_if crashed
+left_chosen spec start node i local true old new why few same crashed words stand = let is = same refl in omega (arith, is)
+left_chosen spec start node i local false old new why few same crashed words stand = let must = must_crash spec start node i local (why refl) crashed words stand in omega (arith, few, must)
+
+-- it is there, and the others come after it
+pub at_chosen : (spec : RoomSpec) (start : Configuration) (table : List Local) (outcomes : List Reached) (node : Node) (number count : ℕ) (choice next : Choice) → ((local : Local) → slice_get table number ≡ Some local → IsChosen spec start node local choice next)
+    → AreFoundFrom spec start table outcomes node (length choice.numbers.items + 1) count next.left next.said.items → AreFoundAt spec start table outcomes node (length choice.numbers.items) count choice.left choice.said.items number
+at_chosen spec start table outcomes node number count choice next chosen found local is crashed words few stand says may =
+    let first = length choice.numbers.items in
+    let here = chosen local is in
+    let left = here.left (crashed first) words stand in
+    let more = crashed_more crashed first count in
+    found crashed words (omega (arith, few, more, left)) stand.says (here.says words says stand.own) may
+
+-- it can't be there
+pub at_none : (spec : RoomSpec) (start : Configuration) (table : List Local) (outcomes : List Reached) (node : Node) (number count : ℕ) (choice : Choice) → ((local : Local) → slice_get table number ≡ Some local → IsNoChoice spec start node local choice)
+    → AreFoundAt spec start table outcomes node (length choice.numbers.items) count choice.left choice.said.items number
+at_none spec start table outcomes node number count choice none local is crashed words few stand says may =
+    let first = length choice.numbers.items in
+    let over = none local is (crashed first) words stand in
+    let more = crashed_more crashed first count in
+    absurd (omega (arith, few, more, over))
+
+-- wherever it is
+pub from_each : (spec : RoomSpec) (start : Configuration) (table : List Local) (outcomes : List Reached) (node : Node) (first count crashes : ℕ) (said : List ℕ) → ((place : ℕ) → place < length (set_of node first) → AreFoundAt spec start table outcomes node first count crashes said (get_or (set_of node first) place 0))
+    → AreFoundFrom spec start table outcomes node first (suc count) crashes said
+from_each spec start table outcomes node first count crashes said each crashed words few says more may =
+    let here : MayEnd spec start table node first (crashed first) words = may first (omega arith) (omega arith) in
+    let there = here.may.there in
+    let number_is : get_or (set_of node first) there.0 0 ≡ here.may.number = get_or_from_slice_get (set_of node first) there.0 here.may.number 0 (slice_get-get_or (set_of node first) there.0 here.may.number there.1 ∙ ap Some there.2) in
+    each there.0 there.1 here.local (ap (slice_get table) number_is ∙ here.may.is) crashed words few (record { says = says; own = here.own; rests = here.rests; had = here.had }) more
+    (λ i low high. may i (omega (arith, low)) (omega (arith, high)))
+
+-- however many come after it
+pub from_all : (spec : RoomSpec) (start : Configuration) (table : List Local) (outcomes : List Reached) (node : Node) (first count crashes : ℕ) (said : List ℕ) → (count ≡ 0 → ⊥)
+    → ((rest : ℕ) → count ≡ suc rest → (place : ℕ) → place < length (set_of node first) → AreFoundAt spec start table outcomes node first rest crashes said (get_or (set_of node first) place 0)) → AreFoundFrom spec start table outcomes node first count crashes said
+from_all spec start table outcomes node first zero crashes said some each = absurd (some refl)
+from_all spec start table outcomes node first (suc rest) crashes said some each = from_each spec start table outcomes node first rest crashes said (each rest refl)
+
+-- all are there
+pub from_none : (spec : RoomSpec) (start : Configuration) (table : List Local) (outcomes : List Reached) (node : Node) (first crashes : ℕ) (said : List ℕ) → ((words : List ℕ) → DoSay said words → IsFound outcomes (ends_by spec words)) → AreFoundFrom spec start table outcomes node first 0 crashes said
+from_none spec start table outcomes node first crashes said found crashed words few says more may = found words more
+
+-- what is said tells how the processes end, and that is found
+pub found_said : (spec : RoomSpec) (outcomes : List Reached) (said : List ℕ) (ends : List Ended) → DoEnd spec said ends → IsFound outcomes ends → (words : List ℕ) → DoSay said words → IsFound outcomes (ends_by spec words)
+found_said spec outcomes said ends end found words says = (found.0, found.1, end words says ∙ found.2)
+
+-- ---- who has crashed
+
+-- counted from the first on
+crashed_last : (crashed : ℕ → Bool) (first count : ℕ) → crashed_from crashed first (suc count) ≡ crashed_from crashed first count + one_if (crashed (first + count))
+crashed_last crashed first zero =
+    let more = crashed_more crashed first 0 in
+    let at : one_if (crashed (first + 0)) ≡ one_if (crashed first) = ap (λ (k : ℕ). one_if (crashed k)) (let same : first + 0 ≡ first = omega arith in same) in
+    omega (arith, more, at)
+crashed_last crashed first (suc count) =
+    let more = crashed_more crashed first (suc count) in
+    let rest = crashed_last crashed (first + 1) count in
+    let here = crashed_more crashed first count in
+    let at : one_if (crashed (first + 1 + count)) ≡ one_if (crashed (first + suc count)) = ap (λ (k : ℕ). one_if (crashed k)) (let same : first + 1 + count ≡ first + suc count = omega arith in same) in
+    omega (arith, more, rest, here, at)
+
+-- one simulator more
+pub have_crashed_more : (spec : RoomSpec) (start : Configuration) (table : List Local) (node : Node) (i least one : ℕ) (is_alive : Bool) → (is_alive ≡ false → (local : Local) → MayBe table node i local → MustHaveCrashed spec start node i local) → (is_alive ≡ true → one ≡ 0) → one ≤ 1
+    → HaveCrashed spec start table node i least → HaveCrashed spec start table node (i + 1) (least + one)
+have_crashed_more spec start table node i least one is_alive must none few before crashed words says may =
+    let was = before crashed words says (λ k below. may k (omega (arith, below))) in
+    let here : MayEnd spec start table node i (crashed i) words = may i (omega arith) in
+    let stand : MayStand spec start node i here.local (crashed i) words = record { says = says; own = here.own; rests = here.rests; had = here.had } in
+    let last = crashed_last crashed 0 i in
+    let place : one_if (crashed (0 + i)) ≡ one_if (crashed i) = ap (λ (k : ℕ). one_if (crashed k)) (let same : 0 + i ≡ i = omega arith in same) in
+    let next : crashed_from crashed 0 (suc i) ≡ crashed_from crashed 0 (i + 1) = ap (crashed_from crashed 0) (let same : suc i ≡ i + 1 = omega arith in same) in
+    let charged : one ≤ one_if (crashed i) = by is_alive refl here.local here.may stand in
+    omega (arith, was, last, place, next, charged)
+  where
+    by : (b : Bool) → is_alive ≡ b → (local : Local) → MayBe table node i local → MayStand spec start node i local (crashed i) words → one ≤ one_if (crashed i)
+    by true is local there stand = let zero_it = none is in omega (arith, zero_it)
+    by false is local there stand = let charge = must_crash spec start node i local (must is local there) (crashed i) words stand in omega (arith, charge, few)
+
+-- too many have crashed
+pub never_taken : (spec : RoomSpec) (start : Configuration) (crashes : ℕ) (table : List Local) (outcomes : List Reached) (node : Node) (least : ℕ) → HaveCrashed spec start table node spec.simulators least → crashes < least → IsTaken spec start crashes table outcomes node
+never_taken spec start crashes table outcomes node least have many crashed words few says more may =
+    let all = have crashed words says (λ i below. may i (omega arith) (omega (arith, below))) in
+    absurd (omega (arith, all, few, many))

@@ -7,7 +7,7 @@ use Rattle.std.proofs.lemmas.List.{append-nil, append_assoc, get_or_append_left,
 use Rattle.std.proofs.lemmas.List.Elements.{Contains-append_left, Contains-push, Contains-push_cases}
 use Rattle.std.proofs.lemmas.Option.{get_or_from_slice_get, none-some, slice_get-get_or, slice_get_within}
 use Rattle.room_spec.specs.Rooms.{RoomSpec}
-use Rattle.simulator.specs.declared.knowledge.Knowledge.{Knowledge}
+use Rattle.room_search.specs.declared.local.Local.{Local}
 use Rattle.room_search.specs.Nodes.{AreIn, AreNumbers, AreSetsAfter, Grows, IsNode, Node, set_of}
 
 -- ---- lists of numbers
@@ -27,7 +27,7 @@ none_past node i number past there =
     omega (arith, inside)
 
 module _ {S : Type 0} where
-  pub sets_count : (inside : List S) (words : List ℕ) (node : Node) (keys : S → List ℕ) → (let view : Node = record { words = words; sets = map keys inside } in view ≡ node) → length inside ≡ length node.sets
+  pub sets_count : (inside : List S) (words : List ℕ) (node : Node) (keys : S → List ℕ) → (let view : Node = record { said = words; sets = map keys inside } in view ≡ node) → length inside ≡ length node.sets
   sets_count inside words node keys view = sym (length-map inside keys) ∙ ap (λ (n : Node). length n.sets) view
 
 -- ---- tables that have grown
@@ -38,16 +38,16 @@ longer old new grown =
     let is = ap (λ (l : List _). length l) grown.1 in
     omega (arith, long, is)
 
-pub numbers_grown : (old new : List Knowledge) (set : List ℕ) → Grows old new → AreNumbers old set → AreNumbers new set
+pub numbers_grown : (old new : List Local) (set : List ℕ) → Grows old new → AreNumbers old set → AreNumbers new set
 numbers_grown old new set grown are number there = let below = are number there in let more = longer old new grown in omega (arith, below, more)
 
-pub numbers_put : (table : List Knowledge) (old new : List ℕ) (number : ℕ) (known : Knowledge) → ((other : ℕ) → Contains new other → Contains old other ⊎ (other ≡ number)) → slice_get table number ≡ Some known → AreNumbers table old → AreNumbers table new
-numbers_put table old new number known added there are other among = elim (added other among) [
+pub numbers_put : (table : List Local) (old new : List ℕ) (number : ℕ) → ((other : ℕ) → Contains new other → Contains old other ⊎ (other ≡ number)) → number < length table → AreNumbers table old → AreNumbers table new
+numbers_put table old new number added inside are other among = elim (added other among) [
   | inl before ↦ are other before
-  | inr last ↦ let inside = slice_get_within table number known there in omega (arith, inside, last)
+  | inr last ↦ omega (arith, inside, last)
 ]
 
-pub one_number : (table : List Knowledge) (number : ℕ) → number < length table → AreNumbers table (number ∷ [])
+pub one_number : (table : List Local) (number : ℕ) → number < length table → AreNumbers table (number ∷ [])
 one_number table number below other there =
     let at = there.1 in
     let first : there.0 ≡ 0 = omega (arith, at) in
@@ -68,7 +68,7 @@ put_cases old new number is other there = elim (Contains-push_cases old number o
 
 -- ---- the sets after a step, one by one
 
-pub sets_none : (spec : RoomSpec) (table : List Knowledge) (node : Node) (simulator number : ℕ) (sets : List (List ℕ)) → sets ≡ [] → AreSetsAfter spec table node simulator number 0 sets
+pub sets_none : (spec : RoomSpec) (table : List Local) (node : Node) (simulator number : ℕ) (sets : List (List ℕ)) → sets ≡ [] → AreSetsAfter spec table node simulator number 0 sets
 sets_none spec table node simulator number sets none = record {
   width = ap (λ (l : List (List ℕ)). length l) none;
   numbers = λ i below. absurd (omega (arith, below));
@@ -76,7 +76,7 @@ sets_none spec table node simulator number sets none = record {
   others = λ i below. absurd (omega (arith, below));
 }
 
-pub sets_more : (spec : RoomSpec) (old new : List Knowledge) (node : Node) (simulator number count : ℕ) (sets after : List (List ℕ)) (set : List ℕ) → after ≡ sets ++ set ∷ [] → Grows old new → AreNumbers new set
+pub sets_more : (spec : RoomSpec) (old new : List Local) (node : Node) (simulator number count : ℕ) (sets after : List (List ℕ)) (set : List ℕ) → after ≡ sets ++ set ∷ [] → Grows old new → AreNumbers new set
     → (count ≡ simulator → Contains set number) → ((count ≡ simulator → ⊥) → AreIn (set_of node count) set) → AreSetsAfter spec old node simulator number count sets → AreSetsAfter spec new node simulator number (count + 1) after
 sets_more spec old new node simulator number count sets after set is grown numbers own other before =
     let last : get_or (sets ++ set ∷ []) count [] ≡ set = get_or_push sets set [] count before.width in
@@ -107,14 +107,17 @@ grows_on first old new one other = (one.0 ++ other.0, other.1 ∙ ap (λ (l : Li
 pub grows_not : {A : Type 0} (list : List A) → Grows list list
 grows_not list = ([], sym (append-nil list))
 
-pub node_grown : (spec : RoomSpec) (old new : List Knowledge) (node : Node) → Grows old new → IsNode spec old node → IsNode spec new node
+pub grows_same : {A : Type 0} (old new : List A) → new ≡ old → Grows old new
+grows_same old new same = ([], same ∙ sym (append-nil old))
+
+pub node_grown : (spec : RoomSpec) (old new : List Local) (node : Node) → Grows old new → IsNode spec old node → IsNode spec new node
 node_grown spec old new node grown is = record {
   words = is.words;
   width = is.width;
   numbers = λ i below. numbers_grown old new (set_of node i) grown (is.numbers i below);
 }
 
-pub never_absent : (table : List Knowledge) (number : ℕ) → None ≡ slice_get table number → number < length table → ⊥
+pub never_absent : (table : List Local) (number : ℕ) → None ≡ slice_get table number → number < length table → ⊥
 never_absent [] number none below = absurd (omega (arith, below))
 never_absent (known ∷ table) zero none below = none-some known none
 never_absent (known ∷ table) (suc number) none below = never_absent table number none (omega (arith, below))
@@ -125,7 +128,7 @@ place_of set at number below is = (at, below, sym is)
 pub extended : (new old more : List ℕ) → new ≡ old ++ more → old ≡ [] → new ≡ more
 extended new old more is none = is ∙ ap (λ (l : List ℕ). l ++ more) none
 
-pub place_there : (table : List Knowledge) (number : ℕ) → number < length table → (known : Knowledge) × (slice_get table number ≡ Some known)
+pub place_there : (table : List Local) (number : ℕ) → number < length table → (known : Local) × (slice_get table number ≡ Some known)
 place_there [] number below = absurd (omega (arith, below))
 place_there (known ∷ table) zero below = (known, refl)
 place_there (known ∷ table) (suc number) below = place_there table number (omega (arith, below))

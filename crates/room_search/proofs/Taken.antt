@@ -1,7 +1,6 @@
 -- Outcomes that were taken so far, each once.
 use Rattle.std.proofs.Common.{◌≡◌, ◌⊎◌, ℕ, zero, suc, ◌<◌, get_or, inl, inr, Bool, true, false, cond, not, eqb, ◌||◌, List, [], ◌∷◌, ◌++◌, length, Some, refl, sym, ap, ◌∙◌, subst, arith}
 use Rattle.std.specs.Prelude.{slice_get}
-use Rattle.std.specs.Global.{Vec}
 use Rattle.std.specs.List.{Contains, IsDistinct, list_any}
 use Rattle.std.specs.Cmp.Lexicographic.{pointwise}
 use Rattle.std.proofs.lemmas.Bool.{and_from, and_parts, cases_Bool, cases_lt, cases_order, eqb-true, not-true, not-false, true≢false}
@@ -17,8 +16,7 @@ use Rattle.run_search.specs.contracts.ended.EndedPartialEq.TheImpl.{ghosts}
 use Rattle.run_search.specs.Outcomes.{Ends}
 use Rattle.room_search.specs.declared.reached.Reached.{Reached}
 use Rattle.room_search.specs.Reaching.{IsFound, outcome_of}
-use Rattle.room_search.specs.Taking.{AreAmong, AreKept}
-use Rattle.room_search.proofs.Same.{same_words}
+use Rattle.room_search.specs.Taking.{AreKept}
 
 -- ---- what `==` says of outcomes
 
@@ -131,38 +129,16 @@ once ends outcomes kept distinct i j one other first second alike =
       ]
     ]
 
--- ---- words
+-- ---- an outcome that is there
 
-abbrev pub are_words : Vec ℕ → Vec ℕ → Bool
-are_words one other = pointwise eqb one.items other.items
-
-pub among_any : (all : List (Vec ℕ)) (one : Vec ℕ) → list_any (are_words one) all ≡ true → AreAmong all one.items
-among_any [] one found = absurd (true≢false (sym found))
-among_any (first ∷ all) one found = by (are_words one first) refl (among_any all one) found
+any_there : (ends : List Ends) (one : Ends) → list_any (are_ends one) ends ≡ true → (index : ℕ) × (stored : Ends) × (slice_get ends index ≡ Some stored) × (are_ends one stored ≡ true)
+any_there [] one found = absurd (true≢false (sym found))
+any_there (first ∷ ends) one found = by (are_ends one first) refl (any_there ends one) found
   where
-    by : (b : Bool) → are_words one first ≡ b → (list_any (are_words one) all ≡ true → AreAmong all one.items) → (b || list_any (are_words one) all) ≡ true → AreAmong (first ∷ all) one.items
-    by true is rest there = (first, (0, omega arith, refl), sym (same_words one.items first.items is))
-    by false is rest there =
-        let later = rest there in
-        (later.0, (suc later.1.0, omega (arith, later.1.1), later.1.2), later.2)
+    by : (b : Bool) → are_ends one first ≡ b → (list_any (are_ends one) ends ≡ true → (index : ℕ) × (stored : Ends) × (slice_get ends index ≡ Some stored) × (are_ends one stored ≡ true)) → (b || list_any (are_ends one) ends) ≡ true
+        → (index : ℕ) × (stored : Ends) × (slice_get (first ∷ ends) index ≡ Some stored) × (are_ends one stored ≡ true)
+    by true is rest there = (0, first, refl, is)
+    by false is rest there = let later = rest there in (suc later.0, later.1, later.2, later.3)
 
-pub words_there : (old new : List (Vec ℕ)) (one : Vec ℕ) → new ≡ insert_key are_words old one → AreAmong new one.items
-words_there old new one is = elim (cases_Bool (list_any (are_words one) old)) [
-  | inl found ↦ subst (λ (l : List (Vec ℕ)). AreAmong l one.items) (sym (is ∙ ap (λ (b : Bool). cond b old (old ++ one ∷ [])) found)) (among_any old one found)
-  | inr fresh ↦ subst (λ (l : List (Vec ℕ)). AreAmong l one.items) (sym (is ∙ ap (λ (b : Bool). cond b old (old ++ one ∷ [])) fresh)) (one, Contains-push old one, refl)
-]
-
-pub words_kept : (old new : List (Vec ℕ)) (one other : Vec ℕ) → new ≡ insert_key are_words old one → Contains old other → Contains new other
-words_kept old new one other is there = elim (cases_Bool (list_any (are_words one) old)) [
-  | inl found ↦ subst (λ (l : List (Vec ℕ)). Contains l other) (sym (is ∙ ap (λ (b : Bool). cond b old (old ++ one ∷ [])) found)) there
-  | inr fresh ↦ still_there old new one other (is ∙ ap (λ (b : Bool). cond b old (old ++ one ∷ [])) fresh) there
-]
-
-pub words_cases : (old new : List (Vec ℕ)) (one other : Vec ℕ) → new ≡ insert_key are_words old one → Contains new other → Contains old other ⊎ (one.items ≡ other.items)
-words_cases old new one other is there = elim (cases_Bool (list_any (are_words one) old)) [
-  | inl found ↦ inl (subst (λ (l : List (Vec ℕ)). Contains l other) (is ∙ ap (λ (b : Bool). cond b old (old ++ one ∷ [])) found) there)
-  | inr fresh ↦ elim (last_case old new one other (is ∙ ap (λ (b : Bool). cond b old (old ++ one ∷ [])) fresh) there) [
-    | inl before ↦ inl before
-    | inr last ↦ inr (ap (λ (v : Vec ℕ). v.items) last)
-  ]
-]
+pub found_any : (ends : List Ends) (outcomes : List Reached) (one : Ends) → AreKept ends outcomes → list_any (are_ends one) ends ≡ true → IsFound outcomes one.items
+found_any ends outcomes one kept found = let at = any_there ends one found in found_there ends outcomes at.0 one at.1 kept at.2 at.3

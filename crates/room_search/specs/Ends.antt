@@ -1,49 +1,51 @@
--- How processes end, as far as the words of a room say it at a glance.
-use Rattle.std.specs.Prelude.{◌≡◌, ℕ, ◌+◌, ◌-◌, ◌<◌, Bool, true, ◌||◌, List, map, min, Option, Some, None, is_some}
-use Rattle.std.specs.List.{find, range_with_len}
-use Rattle.std.specs.Option.{option_map}
-use Rattle.protocol_lang.specs.Numbers.{greatest}
+-- How the processes of a room end, by what is said of its words.
+use Rattle.std.specs.Prelude.{◌≡◌, ◌≢◌, ℕ, ◌==◌, Bool, true, false, List, [], map, None, slice_index}
+use Rattle.std.specs.List.{range_with_len}
 use Rattle.room_spec.specs.Rooms.{RoomSpec, processes}
 use Rattle.room_spec.specs.Sizes.{sizes_in}
+use Rattle.level_cells.specs.Fields.{level_of}
+use Rattle.view_table.specs.Places.{IsPlace, IsPlaceAt, index_of}
 use Rattle.view_table.specs.Words.{word_at}
-use Rattle.view_table.specs.declared.place.Place.TheVariants.{Out}
-use Rattle.room_core.specs.Agreements.{is_out}
-use Rattle.room_core.specs.Calls.{RoomState}
+use Rattle.view_table.specs.declared.place.Place.{Place}
+use Rattle.view_table.specs.declared.place.Place.TheVariants.{Memory, Levels, View, Value, Out}
+use Rattle.room_core.specs.Agreements.{decided_in}
 use Rattle.room_core.specs.Fields.{Fields}
-use Rattle.room_core.specs.Reading.{AreFieldsOf}
-use Rattle.ws_history.specs.Reports.{states_of}
+use Rattle.room_core.specs.Reading.{fields_in}
+use Rattle.ws_history.specs.Readings.{small_fields}
+use Rattle.ws_history.specs.Reports.{is_spent, state_by}
 use Rattle.run_search.specs.declared.ended.Ended.{Ended}
-use Rattle.run_search.specs.declared.ended.Ended.TheVariants.{Decided, Stopped}
-use Rattle.room_outcomes.specs.Ends.{ends_of}
-use Rattle.room_search.specs.declared.reached.Reached.{Reached}
-use Rattle.room_search.specs.Reaching.{IsFound}
-use Rattle.room_search.specs.Resting.{is_unresolved}
+use Rattle.room_outcomes.specs.Ends.{end_of}
+use Rattle.room_search.specs.Saying.{DoSay, heard}
 
--- what simulator i has stored as the decision of process j, and one more; 0 for none
-abbrev pub out_in : RoomSpec → List ℕ → ℕ → ℕ → ℕ
-out_in spec words j i = min (word_at (sizes_in spec) words (Out i j)) (greatest + 1)
+-- the fields that the words of a room say
+abbrev pub fields_by : RoomSpec → List ℕ → Fields
+fields_by spec words = small_fields (fields_in (record { spec = spec; words = words; sweeps = []; crashed = [] }))
 
--- the decision of process j that the least simulator has stored which has stored one
-abbrev pub decided_by : RoomSpec → List ℕ → ℕ → Option ℕ
-decided_by spec words j = option_map (λ out. out - 1) (find is_out (map (out_in spec words j) (range_with_len 0 spec.simulators)))
-
-abbrev pub decided_or_stopped : Option ℕ → Ended
-decided_or_stopped (Some v) = Decided v
-decided_or_stopped None = Stopped
-
--- how process j ends, if it isn't spent
+-- how process j ends: one that is held or still going counts as stopped
 abbrev pub end_by : RoomSpec → List ℕ → ℕ → Ended
-end_by spec words j = decided_or_stopped (decided_by spec words j)
+end_by spec words j = end_of (state_by (decided_in spec (fields_by spec words) j) (is_spent spec (fields_by spec words) j) None)
 
--- a decision of process j is stored, or its last agreement isn't resolved: so it isn't spent
-abbrev pub isnt_spent : RoomSpec → List ℕ → ℕ → Bool
-isnt_spent spec words j = is_some (decided_by spec words j) || is_unresolved spec words j spec.rounds
+abbrev pub ends_by : RoomSpec → List ℕ → List Ended
+ends_by spec words = map (end_by spec words) (range_with_len 0 (processes spec))
 
--- no process is spent, and so the processes end like this
-pub record SayEnds (spec : RoomSpec) (words : List ℕ) (ends : List Ended) : Type 0 where
-  pub ends_are : ends ≡ map (end_by spec words) (range_with_len 0 (processes spec))
-  pub each : (j : ℕ) → j < processes spec → isnt_spent spec words j ≡ true
+-- The word of a place counts for how the processes end: a proposal does only if its simulator is at level 2.
+abbrev pub counts : RoomSpec → List ℕ → Place → Bool
+counts spec words (Memory w) = true
+counts spec words (Levels j k) = true
+counts spec words (View i j k w) = level_of (word_at (sizes_in spec) words (Levels j k)) i == 2
+counts spec words (Value i j k) = true
+counts spec words (Out i j) = true
 
--- The outcome of each room with these words is among those that were found.
-abbrev pub AreEndsFound : RoomSpec → List Reached → List ℕ → Type 0
-AreEndsFound spec outcomes words = (room : RoomState) (fields : Fields) → room.spec ≡ spec → AreFieldsOf room fields → room.words ≡ words → IsFound outcomes (ends_of (states_of spec fields))
+-- the word of this index doesn't count
+pub record IsNotCounted (spec : RoomSpec) (words : List ℕ) (at : ℕ) : Type 0 where
+  pub place : Place
+  pub is : IsPlaceAt (sizes_in spec) place at
+  pub no : counts spec words place ≡ false
+
+-- each word that counts is said
+abbrev pub SaysEnough : RoomSpec → List ℕ → Type 0
+SaysEnough spec said = (place : Place) → IsPlace (sizes_in spec) place → counts spec (heard said) place ≡ true → slice_index said (index_of (sizes_in spec) place) ≢ 0
+
+-- The processes of each room of which this is said end like this.
+abbrev pub DoEnd : RoomSpec → List ℕ → List Ended → Type 0
+DoEnd spec said ends = (words : List ℕ) → DoSay said words → ends_by spec words ≡ ends

@@ -1,9 +1,13 @@
+pub mod Saying
 pub mod Steps
 pub mod Beginnings
 pub mod Continuing
 pub mod Nodes
+pub mod Moving
 pub mod Searches
 pub mod Resting
 pub mod Reaching
+pub mod Lasting
 pub mod Ends
+pub mod Premises
 pub mod Taking

@@ -1,74 +1,73 @@
-//! How processes end, as far as the words of a room say it at a glance.
-ghost use Rattle.std.specs.Prelude.{◌≡◌, ◌<◌, IfSome, true};
+//! How the processes end in each room of which something is said.
+ghost use Rattle.std.specs.Prelude.{◌≡◌, ◌<◌, ◌==◌, IfOk, IfSome, false, true};
 ghost use Rattle.room_spec.specs.Rooms.{processes};
-ghost use Rattle.room_search.specs.Ends.{SayEnds, decided_by, end_by, isnt_spent, out_in};
+ghost use Rattle.room_spec.specs.Sizes.{sizes_in};
+ghost use Rattle.level_cells.specs.Fields.{level_of};
+ghost use Rattle.view_table.specs.Places.{IsRound, words_of};
+ghost use Rattle.view_table.specs.Words.{word_at};
+ghost use Rattle.view_table.specs.declared.place.Place.TheVariants.{Levels};
+ghost use Rattle.room_search.specs.Ends.{DoEnd, IsNotCounted, SaysEnough};
+ghost use Rattle.room_search.specs.Saying.{heard};
 ghost use Rattle.room_search.specs.Steps.{AreWords};
 
-use crate::resting::is_unresolved;
+use crate::reading::{ends_by, is_at_two};
 use crate::subject::Subject;
-use run_search::{Ended, Ends};
-use view_table::{Place, index};
+use run_search::Ends;
+use std::alloc::AllocError;
+use view_table::{Place, place_at};
 
-/// The greatest decision, and one more.
-const MOST: u64 = 4294967296;
-
-/// How the processes of a room with these words end, if each has decided or the agreement on its last snapshot isn't resolved. Of any other room only a report
-/// says it, since it says what the protocol asks for after that snapshot.
-pub fn ends_by_words(subject: &Subject<'_>, words: &[u64]) -> Option<Ends>
-    requires { AreWords subject.now.spec.now words.now }
-    ensures { IfSome result (λ ends. SayEnds subject.now.spec.now words.now ends.items) }
+/// How the processes end in each room of which this is said. `None` if that doesn't tell.
+pub fn ends_said(subject: &Subject<'_>, said: &[u64]) -> Result<Option<Ends>, AllocError>
+    requires { AreWords subject.now.spec.now said.now }
+    ensures { IfOk result (λ found. IfSome found (λ ends. DoEnd subject.now.spec.now said.now ends.items)) }
 {
-    let mut ends = Ends::new();
-    for j in 0..subject.spec.n() {
-        let Some(end) = end_by_words(subject, words, j) else {
-            return None;
-        };
-        ends.push(end);
+    let _shape = subject.spec.shape(); // for the proof: the room is within its limits
+    let words = heard(subject, said)?;
+    if says_enough(subject, said, words.as_slice()) {
+        Ok(Some(ends_by(subject, words.as_slice())))
+    } else {
+        Ok(None)
     }
-    Some(ends)
 }
 
-/// How process `j` ends, if it has decided or the agreement on its last snapshot isn't resolved.
-fn end_by_words(subject: &Subject<'_>, words: &[u64], j: usize) -> Option<Ended>
-    requires process { j < processes subject.now.spec.now }
-    requires words { AreWords subject.now.spec.now words.now }
-    ensures { IfSome result (λ end. (end ≡ end_by subject.now.spec.now words.now j) × (isnt_spent subject.now.spec.now words.now j ≡ true)) }
+/// The words as far as they are said; the others are 0.
+fn heard(subject: &Subject<'_>, said: &[u64]) -> Result<Vec<u64>, AllocError>
+    ensures { IfOk result (λ words. words.items ≡ heard said.now) }
 {
-    if let Some(value) = decided_by(subject, words, j) {
-        return Some(Ended::Decided(value));
+    let mut words = Vec::with_capacity(subject.alloc, said.len())?;
+    for index in 0..said.len() {
+        words.push(said[index].saturating_sub(1))?;
     }
-    let last = subject.spec.rounds() as u8;
-    if is_unresolved(subject, words, j, last) {
-        return Some(Ended::Stopped);
-    }
-    None
+    Ok(words)
 }
 
-/// The decision of process `j` that the least simulator has stored which has stored one.
-fn decided_by(subject: &Subject<'_>, words: &[u64], j: usize) -> Option<u32>
-    requires process { j < processes subject.now.spec.now }
-    requires words { AreWords subject.now.spec.now words.now }
-    ensures { result ≡ decided_by subject.now.spec.now words.now j }
+/// Whether each word that counts for how the processes end is said.
+fn says_enough(subject: &Subject<'_>, said: &[u64], words: &[u64]) -> bool
+    requires said { AreWords subject.now.spec.now said.now }
+    requires words { words.now ≡ heard said.now }
+    ensures { result ≡ true → SaysEnough subject.now.spec.now said.now }
 {
-    for i in 0..subject.spec.m() {
-        let out = out_in(subject, words, j, i);
-        if out != 0 {
-            return Some((out - 1) as u32);
+    for index in 0..said.len() {
+        if said[index] == 0 && counts_at(subject, words, index) {
+            return false;
         }
     }
-    None
+    true
 }
 
-/// What simulator `i` has stored as the decision of process `j`, and one more; 0 for none.
-fn out_in(subject: &Subject<'_>, words: &[u64], j: usize, i: usize) -> u64
-    requires process { j < processes subject.now.spec.now }
-    requires simulator { i < subject.now.spec.now.simulators }
+/// Whether the word of this index counts for how the processes end.
+fn counts_at(subject: &Subject<'_>, words: &[u64], at: usize) -> bool
+    requires within { at < words_of (sizes_in subject.now.spec.now) }
     requires words { AreWords subject.now.spec.now words.now }
-    ensures { result ≡ out_in subject.now.spec.now words.now j i }
+    ensures { result ≡ false → IsNotCounted subject.now.spec.now words.now at }
 {
-    let place = Place::Out {
-        simulator: i,
-        process: j,
-    };
-    words[index(&subject.spec.shape(), place)].min(MOST)
+    match place_at(&subject.spec.shape(), at) {
+        Place::View {
+            simulator,
+            process,
+            round,
+            ..
+        } => is_at_two(subject, words, simulator, process, round),
+        _ => true,
+    }
 }

@@ -2,16 +2,23 @@
 #![tactic(auto)]
 
 mod beginning;
+mod choice;
 mod closing;
 mod ends;
 mod explored;
+mod first;
 pub mod laws;
+mod local;
+mod moves;
 mod node;
 mod path;
+mod premise;
 mod reached;
+mod reading;
 mod resting;
 mod running;
 mod search;
+mod shown;
 mod stepping;
 mod subject;
 mod table;

@@ -1,11 +1,11 @@
-//! Nodes: the words of a room, and for each simulator what it may know while they stay so.
+//! Nodes: what is said of the words of a room, and for each simulator in which local states it may be while that stays so.
 ghost use Rattle.std.specs.Prelude.{◌≡◌, ◌<◌, true, length, map};
 ghost use Rattle.room_search.specs.Nodes.{AreIn, IsBelow, Node as NodeValue, set_of};
 
 use std::marker::Model;
 
-/// The step by which a node was reached first: from the node of this index, by this simulator when it knew what has this number in the
-/// table. The first node has none.
+/// The step by which a node was reached first: from the node of this index, by this simulator from the local state that has this
+/// number in the table. The first node has none.
 #[derive(Clone, Copy)]
 pub struct Origin {
     pub from: u32,
@@ -13,11 +13,12 @@ pub struct Origin {
     pub number: u32,
 }
 
-/// Rooms with the same words: each simulator may know each of some things, whatever the others do.
+/// Rooms of which the same is said: each simulator may be in each of some local states, whatever the others do.
 #[derive(Drop)]
 pub struct Node {
-    pub words: Vec<u64>,
-    /// For each simulator the numbers of what it may know.
+    /// For each word of the room the number after it, or 0 if nothing is said of it here.
+    pub said: Vec<u64>,
+    /// For each simulator the numbers of its local states.
     pub sets: Vec<Vec<u32>>,
     pub origin: Origin,
 }
@@ -28,26 +29,22 @@ impl Model for Node {
 
     ghost Value = { NodeValue };
 
-    ghost view = { λ node. record { words = node.words.items; sets = map (λ set. set.items) node.sets.items } };
+    ghost view = { λ node. record { said = node.said.items; sets = map (λ set. set.items) node.sets.items } };
 }
 
 impl Node {
-    pub fn new(words: Vec<u64>, sets: Vec<Vec<u32>>, origin: Origin) -> Node
-        ensures words { result.words ≡ words.items }
+    pub fn new(said: Vec<u64>, sets: Vec<Vec<u32>>, origin: Origin) -> Node
+        ensures said { result.said ≡ said.items }
         ensures sets { result.sets ≡ map (λ set. set.items) sets.items }
     {
-        Node {
-            words,
-            sets,
-            origin,
-        }
+        Node { said, sets, origin }
     }
 
-    /// The words of the room.
-    pub fn words(&self) -> &Vec<u64>
-        ensures { result.now.items ≡ self.now.words }
+    /// What it says of the words.
+    pub fn said(&self) -> &Vec<u64>
+        ensures { result.now.items ≡ self.now.said }
     {
-        &self.words
+        &self.said
     }
 
     /// The step by which it was reached first.
@@ -55,7 +52,7 @@ impl Node {
         self.origin
     }
 
-    /// The numbers of what simulator `i` may know.
+    /// The numbers of the local states of simulator `i`.
     pub fn set(&self, i: usize) -> &[u32]
         requires { i < length self.now.sets }
         ensures { result.now ≡ set_of self.now i }
@@ -70,11 +67,11 @@ impl Node {
         self.sets.len()
     }
 
-    /// Whether another node with the same words has all that this one has.
+    /// Whether another node that says the same has all that this one has.
     pub fn is_below(&self, above: &Node) -> bool
         ensures { result ≡ true → IsBelow self.now above.now }
     {
-        if self.words.as_slice() != above.words.as_slice() {
+        if self.said.as_slice() != above.said.as_slice() {
             return false;
         }
         if self.width() != above.width() {

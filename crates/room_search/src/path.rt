@@ -1,12 +1,12 @@
-//! Schedules that lead from the start to a node. Whether one leads there is seen when it is run: nothing is promised here.
+//! Schedules that lead to a node. Whether one leads there is seen when it is run: nothing is promised here.
 ghost use Rattle.std.specs.Prelude.{◌<◌};
 ghost use Rattle.room_search.specs.Searches.{IsSearched};
 ghost use Rattle.room_search.specs.Steps.{AreWords};
 
 use crate::explored::Explored;
 use crate::node::Node;
-use crate::stepping::after_step;
-use crate::subject::Subject;
+use crate::stepping::{Next, after_step, local_of};
+use crate::subject::{Subject, has_crashed};
 use crate::table::number_of;
 use arrayvec::ArrayVec;
 use room_sample::Stretch;
@@ -16,10 +16,10 @@ use std::alloc::AllocError;
 /// The most steps that are looked for between two nodes.
 const MOST_STEPS: u16 = 65535;
 
-/// What each simulator knows, by its number in the table.
+/// The local state of each simulator, by its number in the table.
 pub type Numbers = ArrayVec<u32, MAX_SIMULATORS>;
 
-/// A place on the way back from a node to the first one: what the simulators know there, and the stretches from there on, the last one first.
+/// A place on the way back from a node to the first one: the local states of the simulators there, and the stretches from there on, the last one first.
 #[derive(Drop)]
 struct Way {
     index: usize,
@@ -27,7 +27,7 @@ struct Way {
     stretches: Vec<Stretch>,
 }
 
-/// A schedule from the start to the node of this index, after which the simulators know what has these numbers, as far as one is found.
+/// A schedule from the start to the node of this index, after which the simulators are in the local states of these numbers, as far as one is found.
 ///
 /// # Errors
 ///
@@ -82,7 +82,7 @@ impl Explored {
         Ok(true)
     }
 
-    /// Goes back over the steps by which simulator `i` came to what it knows on the way, in its node. Gives whether they were found.
+    /// Goes back over the steps by which simulator `i` came to its local state on the way, in its node: the fewest. Gives whether some were found.
     fn go_back_alone(
         &self,
         subject: &Subject<'_>,
@@ -91,7 +91,7 @@ impl Explored {
         way: &mut Way,
     ) -> Result<bool, AllocError>
         requires searched { IsSearched subject.now.spec.now self.now }
-        requires words { AreWords subject.now.spec.now node.now.words }
+        requires said { AreWords subject.now.spec.now node.now.said }
         requires simulator { i < subject.now.spec.now.simulators }
     {
         let _m = subject.spec.m(); // for the proof: it is at most 8
@@ -99,17 +99,43 @@ impl Explored {
             return Ok(false);
         };
         let starts = self.starts(subject, way.index, node, i)?;
-        for start in starts.as_slice() {
-            if let Some(count) = self.steps_between(subject, node, *start, to)? {
-                put(&mut way.numbers, i, *start);
-                push_steps(&mut way.stretches, i as u8, count)?;
-                return Ok(true);
-            }
-        }
-        Ok(false)
+        let Some(start) = self.nearest(subject, node, i, starts.as_slice(), to)? else {
+            return Ok(false);
+        };
+        put(&mut way.numbers, i, start.number);
+        push_steps(&mut way.stretches, i as u8, start.steps)?;
+        Ok(true)
     }
 
-    /// The numbers of what simulator `i` may have known when the node of this index was reached first.
+    /// The start from which the fewest steps of simulator `i` in a node lead to the local state of this number.
+    fn nearest(
+        &self,
+        subject: &Subject<'_>,
+        node: &Node,
+        i: usize,
+        starts: &[u32],
+        to: u32,
+    ) -> Result<Option<Start>, AllocError>
+        requires searched { IsSearched subject.now.spec.now self.now }
+        requires said { AreWords subject.now.spec.now node.now.said }
+        requires simulator { i < subject.now.spec.now.simulators }
+    {
+        let mut best: Option<Start> = None;
+        for number in starts {
+            if let Some(steps) = self.steps_between(subject, node, i, *number, to)? {
+                best = nearer(
+                    best,
+                    Start {
+                        number: *number,
+                        steps,
+                    },
+                );
+            }
+        }
+        Ok(best)
+    }
+
+    /// The numbers of the local states in which simulator `i` may have been when the node of this index was reached first.
     fn starts(
         &self,
         subject: &Subject<'_>,
@@ -118,6 +144,7 @@ impl Explored {
         i: usize,
     ) -> Result<Vec<u32>, AllocError>
         requires searched { IsSearched subject.now.spec.now self.now }
+        requires simulator { i < subject.now.spec.now.simulators }
     {
         let mut starts = Vec::new(subject.alloc);
         let origin = node.origin();
@@ -125,103 +152,117 @@ impl Explored {
             return Ok(starts);
         };
         if index == 0 {
-            self.push_opening(subject, i, &mut starts)?;
+            push_first(node, i, &mut starts)?;
         } else if i == usize::from(origin.simulator) {
-            self.push_after(subject, before, origin.number, &mut starts)?;
+            self.push_after(subject, before, i, origin.number, &mut starts)?;
         } else if i < before.width() {
             starts.extend_from_slice(before.set(i))?;
         }
         Ok(starts)
     }
 
-    /// Adds the number of what simulator `i` knows at the start.
-    fn push_opening(
-        &self,
-        subject: &Subject<'_>,
-        i: usize,
-        starts: &mut Vec<u32>,
-    ) -> Result<(), AllocError> {
-        if i < subject.start.spec().m() {
-            if let Some(number) = number_of(&self.table, &subject.start.mind(i).knowledge()) {
-                starts.push(number)?;
-            }
-        }
-        Ok(())
-    }
-
-    /// Adds the number of what a simulator knows after its next step in a node, where it knows what has this number.
+    /// Adds the number of the local state of simulator `i` after its next step in a node, from that of this number.
     fn push_after(
         &self,
         subject: &Subject<'_>,
         node: &Node,
+        i: usize,
         number: u32,
         starts: &mut Vec<u32>,
     ) -> Result<(), AllocError>
         requires searched { IsSearched subject.now.spec.now self.now }
-        requires words { AreWords subject.now.spec.now node.now.words }
+        requires said { AreWords subject.now.spec.now node.now.said }
+        requires simulator { i < subject.now.spec.now.simulators }
     {
-        let Some(known) = self.table.get_index(number as usize) else {
+        let Some(local) = self.moves.table.get_index(number as usize) else {
             return Ok(());
         };
-        let Some(after) = after_step(subject, node.words(), known)? else {
+        let Next::To(after) = after_step(subject, node.said(), i, local)? else {
             return Ok(());
         };
-        if let Some(number) = number_of(&self.table, &after.known) {
+        if let Some(number) = number_of(&self.moves.table, &local_of(after)) {
             starts.push(number)?;
         }
         Ok(())
     }
 
-    /// How many steps in a node lead from what has one number to what has another, if some do and none of them changes the words.
+    /// How many steps of simulator `i` in a node lead from the local state of one number to that of another, if some do and none of them changes what is said.
     fn steps_between(
         &self,
         subject: &Subject<'_>,
         node: &Node,
+        i: usize,
         from: u32,
         to: u32,
     ) -> Result<Option<u16>, AllocError>
         requires searched { IsSearched subject.now.spec.now self.now }
-        requires words { AreWords subject.now.spec.now node.now.words }
+        requires said { AreWords subject.now.spec.now node.now.said }
+        requires simulator { i < subject.now.spec.now.simulators }
     {
         let mut number = from;
         for count in 0..MOST_STEPS {
             if number == to {
                 return Ok(Some(count));
             }
-            let Some(next) = self.alone(subject, node, number)? else {
+            let Some(next) = self.alone(subject, node, i, number)? else {
                 return Ok(None);
             };
+            if next == from {
+                return Ok(None);
+            }
             number = next;
         }
         Ok(None)
     }
 
-    /// The number of what a simulator knows after its next step in a node, if the step leaves the words as they are.
+    /// The number of the local state of simulator `i` after its next step in a node, if the step leaves what is said as it is.
     fn alone(
         &self,
         subject: &Subject<'_>,
         node: &Node,
+        i: usize,
         number: u32,
     ) -> Result<Option<u32>, AllocError>
         requires searched { IsSearched subject.now.spec.now self.now }
-        requires words { AreWords subject.now.spec.now node.now.words }
+        requires said { AreWords subject.now.spec.now node.now.said }
+        requires simulator { i < subject.now.spec.now.simulators }
     {
-        let Some(known) = self.table.get_index(number as usize) else {
+        let Some(local) = self.moves.table.get_index(number as usize) else {
             return Ok(None);
         };
-        let Some(after) = after_step(subject, node.words(), known)? else {
+        let Next::To(after) = after_step(subject, node.said(), i, local)? else {
             return Ok(None);
         };
-        if after.words.as_slice() != node.words().as_slice() {
+        if after.said.shown.as_slice() != node.said().as_slice() {
             return Ok(None);
         }
-        Ok(number_of(&self.table, &after.known))
+        Ok(number_of(&self.moves.table, &local_of(after)))
     }
 }
 
-/// Whether simulator `i` has crashed at the start.
-fn has_crashed(subject: &Subject<'_>, i: usize) -> bool {
-    i < subject.start.spec().m() && subject.start.is_crashed(i)
+/// Adds the number of the local state of simulator `i` at the start, which is the first of the first node.
+fn push_first(node: &Node, i: usize, starts: &mut Vec<u32>) -> Result<(), AllocError> {
+    if i < node.width() {
+        if let Some(number) = node.set(i).first() {
+            starts.push(*number)?;
+        }
+    }
+    Ok(())
+}
+
+/// A local state from which some steps lead on.
+#[derive(Clone, Copy)]
+struct Start {
+    number: u32,
+    steps: u16,
+}
+
+/// The one from which fewer steps lead on.
+fn nearer(best: Option<Start>, start: Start) -> Option<Start> {
+    match best {
+        Some(other) if other.steps <= start.steps => Some(other),
+        _ => Some(start),
+    }
 }
 
 fn number_at(numbers: &Numbers, i: usize) -> Option<u32> {

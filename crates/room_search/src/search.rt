@@ -1,9 +1,10 @@
 //! All outcomes that the simulators of a room can reach.
-ghost use Rattle.std.specs.Prelude.{◌≡◌, ◌≤◌, ◌⊎◌, ℕ, IfOk, List, OnOk, Some, length, slice_get};
+ghost use Rattle.std.specs.Prelude.{◌≡◌, ◌≤◌, ◌⊎◌, ℕ, IfOk, List, OnOk, Some, false, length, slice_get};
 ghost use Rattle.std.specs.List.{Contains};
 ghost use Rattle.room_spec.specs.Rooms.{processes};
 ghost use Rattle.run_search.specs.Outcomes.{IsRunOutcome};
 ghost use Rattle.run_search.specs.declared.ended.Ended.{Ended as EndedValue};
+ghost use Rattle.room_core.specs.Calls.{configuration_of};
 ghost use Rattle.room_search.specs.Nodes.{Node as NodeValue};
 ghost use Rattle.room_search.specs.Beginnings.{begun};
 ghost use Rattle.room_search.specs.Reaching.{IsFound, IsOpen, IsReachable, IsReachedBy, IsReachedFrom, outcome_of};
@@ -12,6 +13,7 @@ ghost use Rattle.room_search.specs.Taking.{IsTaken, IsTaking};
 ghost use Rattle.room_search.specs.declared.reached.Reached.{Reached as ReachedValue};
 
 use crate::beginning::{Beginning, room_after};
+use crate::choice::Source;
 use crate::explored::{Explored, explore};
 use crate::reached::Reached;
 use crate::subject::Subject;
@@ -123,13 +125,19 @@ fn take_all(subject: &Subject<'_>, explored: &Explored, crashes: u32) -> Result<
     requires { IsSearched subject.now.spec.now explored.now }
     ensures taking { IfOk result (λ taken. IsTaking subject.now.spec.now (begun subject.now.spec.now subject.now.acts.now) crashes taken.taking) }
     ensures all { IfOk result (λ taken. taken.missed ≡ 0 → (index : ℕ) (node : NodeValue) → slice_get explored.now.nodes.items index ≡ Some node →
-        IsTaken subject.now.spec.now crashes explored.now.table.keys taken.taking.done.keys node) }
+        IsTaken subject.now.spec.now (configuration_of subject.now.start.now) crashes explored.now.moves.table.keys taken.taking.outcomes.items node) }
+    ensures lost { IfOk result (λ taken. taken.missed ≡ 0 → explored.now.lost ≡ false) }
 {
+    let source = Source {
+        subject,
+        explored,
+        crashes,
+    };
     let mut taking = Taking::nothing(subject.alloc);
-    let left = take_first(subject, explored, crashes, &mut taking)?;
-    let mut missed: u64 = 0;
+    let left = take_first(&source, &mut taking)?;
+    let mut missed = u64::from(explored.lost);
     for place in 0..left.len() {
-        if !taking.take(subject, explored, crashes, left[place])? {
+        if !taking.take(&source, left[place])? {
             missed = missed.saturating_add(1);
         }
     }
@@ -137,21 +145,16 @@ fn take_all(subject: &Subject<'_>, explored: &Explored, crashes: u32) -> Result<
 }
 
 /// Takes the outcomes of the rooms of the nodes one by one, and gives the indices of those to which no schedule is found. Their outcomes may be those of later nodes.
-fn take_first(
-    subject: &Subject<'_>,
-    explored: &Explored,
-    crashes: u32,
-    taking: &mut Taking,
-) -> Result<Vec<usize>, AllocError>
-    requires searched { IsSearched subject.now.spec.now explored.now }
-    requires taking { IsTaking subject.now.spec.now (begun subject.now.spec.now subject.now.acts.now) crashes taking.old }
-    ensures taking { OnOk result (IsTaking subject.now.spec.now (begun subject.now.spec.now subject.now.acts.now) crashes taking.new) }
-    ensures all { IfOk result (λ left. (index : ℕ) (node : NodeValue) → slice_get explored.now.nodes.items index ≡ Some node →
-        IsTaken subject.now.spec.now crashes explored.now.table.keys taking.new.done.keys node ⊎ Contains left.items index) }
+fn take_first(source: &Source<'_>, taking: &mut Taking) -> Result<Vec<usize>, AllocError>
+    requires searched { IsSearched source.now.subject.now.spec.now source.now.explored.now }
+    requires taking { IsTaking source.now.subject.now.spec.now (begun source.now.subject.now.spec.now source.now.subject.now.acts.now) source.now.crashes taking.old }
+    ensures taking { OnOk result (IsTaking source.now.subject.now.spec.now (begun source.now.subject.now.spec.now source.now.subject.now.acts.now) source.now.crashes taking.new) }
+    ensures all { IfOk result (λ left. (index : ℕ) (node : NodeValue) → slice_get source.now.explored.now.nodes.items index ≡ Some node →
+        IsTaken source.now.subject.now.spec.now (configuration_of source.now.subject.now.start.now) source.now.crashes source.now.explored.now.moves.table.keys taking.new.outcomes.items node ⊎ Contains left.items index) }
 {
-    let mut left = Vec::new(subject.alloc);
-    for index in 0..explored.nodes.len() {
-        if !taking.take(subject, explored, crashes, index)? {
+    let mut left = Vec::new(source.subject.alloc);
+    for index in 0..source.explored.nodes.len() {
+        if !taking.take(source, index)? {
             left.push(index)?;
         }
     }

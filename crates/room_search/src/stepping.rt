@@ -1,45 +1,74 @@
-//! The steps of a simulator by what it knows.
-ghost use Rattle.std.specs.Prelude.{◌≡◌, IfOk, MatchBool, MatchOption, length};
-ghost use Rattle.simulator.specs.Moves.{IsOperation, IsWithin, answer_of, words_after};
-ghost use Rattle.room_search.specs.Steps.{AreWords, HasStep, IsKnowledge, IsStepOf};
+//! The steps of a simulator from its local states.
+ghost use Rattle.std.specs.Prelude.{◌≡◌, ◌<◌, ◌≤◌, IfOk, IfSome, MatchBool, length};
+ghost use Rattle.room_spec.specs.Rooms.{RoomSpec, processes};
+ghost use Rattle.simulator.specs.Moves.{IsOperation};
+ghost use Rattle.simulator.specs.Ranges.{IsMind};
+ghost use Rattle.room_search.specs.Steps.{AreSaid, AreWords, IsLocal, IsNext, SaysNoMore, local_of};
 
+use crate::local::Local;
+use crate::shown::Said;
 use crate::subject::Subject;
-use room_core::perform;
-use simulator::{Knowledge, Mind, Move};
+use simulator::{Knowledge, Line, Mind, Move};
 use std::alloc::{AllocError, Global};
+use view_table::{Place, index};
 
-/// What comes of a step: what the simulator knows then, and the words of the room.
+/// What comes of a step: what the simulator knows then, and what is said of the words.
 #[derive(Drop)]
 pub struct Stepped {
     pub known: Knowledge,
-    pub words: Vec<u64>,
+    pub said: Said,
 }
 
-/// What comes of the next step of a simulator that knows this, on these words. `None` if it has no step to take: all its processes are
-/// done or spent.
+/// The local state after a step.
+pub fn local_of(stepped: Stepped) -> Local
+    ensures { result ≡ local_of stepped }
+{
+    Local {
+        known: stepped.known,
+        own: stepped.said.own,
+    }
+}
+
+/// The next step of a simulator.
+#[derive(Drop)]
+pub enum Next {
+    /// It has none: all its processes are done or spent.
+    Nothing,
+    /// It works on a word of which nothing is said. There is no such step in a room.
+    Lost,
+    To(Stepped),
+}
+
+/// What comes of the next step of simulator `i` from a local state, in a node that says this.
 ///
 /// # Errors
 ///
 /// An allocation that fails.
 pub fn after_step(
     subject: &Subject<'_>,
-    words: &[u64],
-    known: &Knowledge,
-) -> Result<Option<Stepped>, AllocError>
-    requires known { IsKnowledge subject.now.spec.now known.now }
-    requires words { AreWords subject.now.spec.now words.now }
-    ensures { IfOk result (λ stepped. MatchOption stepped (HasStep subject.now.spec.now known.now → ⊥) (IsStepOf subject.now.spec.now words.now known.now)) }
+    said: &[u64],
+    i: usize,
+    local: &Local,
+) -> Result<Next, AllocError>
+    requires said { AreWords subject.now.spec.now said.now }
+    requires simulator { i < subject.now.spec.now.simulators }
+    requires local { IsLocal subject.now.spec.now local.now }
+    ensures { IfOk result (IsNext subject.now.spec.now said.now i local.now) }
 {
-    let mut mind = Mind::knowing(known);
+    let mut mind = Mind::knowing(&local.known);
     let next = mind.next_move(subject.spec);
     if !is_operation(next) {
-        return Ok(None);
+        return Ok(Next::Nothing);
     }
-    let (after, answer) = performed(subject.alloc, words, next)?;
+    let mut said = both(subject.alloc, said, &local.own)?;
+    let Some(answer) = said.operate(subject, i, next) else {
+        return Ok(Next::Lost);
+    };
+    pass_on(subject, i, &mind, &mut said);
     mind.take(subject.spec, answer);
-    Ok(Some(Stepped {
+    Ok(Next::To(Stepped {
         known: mind.knowledge(),
-        words: after,
+        said,
     }))
 }
 
@@ -49,15 +78,103 @@ fn is_operation(next: Move) -> bool
     !matches!(next, Move::Finished | Move::OutOfTurns)
 }
 
-/// The words after an operation, and what it answers.
-fn performed(alloc: Global, words: &[u64], next: Move) -> Result<(Vec<u64>, u64), AllocError>
-    requires { IsWithin next (length words.now) }
-    ensures words { IfOk result (λ done. done.0.items ≡ words_after next words.now) }
-    ensures answer { IfOk result (λ done. done.1 ≡ answer_of next words.now) }
+/// What is said by a node and by a local state.
+fn both(alloc: Global, shown: &[u64], own: &[u64]) -> Result<Said, AllocError>
+    ensures shown { IfOk result (λ said. said.shown.items ≡ shown.now) }
+    ensures own { IfOk result (λ said. said.own.items ≡ own.now) }
 {
-    let mut after = copied(alloc, words)?;
-    let answer = perform(&mut after, next);
-    Ok((after, answer))
+    Ok(Said {
+        shown: copied(alloc, shown)?,
+        own: copied(alloc, own)?,
+    })
+}
+
+/// Words that others can read after this step of simulator `i`, and could not before, are said by the node from now on; and nothing is said any more of a proposal that is withdrawn.
+fn pass_on(subject: &Subject<'_>, i: usize, mind: &Mind, said: &mut Said)
+    requires mind { IsMind subject.now.spec.now mind.now }
+    requires simulator { i < subject.now.spec.now.simulators }
+    requires said { AreSaid subject.now.spec.now said.old }
+    ensures { SaysNoMore subject.now.spec.now said.old said.new }
+{
+    let Some((process, round)) = turn_of(subject, mind) else {
+        return;
+    };
+    match mind.line() {
+        Line::Raise => pass_value(subject, i, process, round, said),
+        Line::Leave { saw_two } => pass_view(subject, i, process, round, saw_two, said),
+        _ => {}
+    }
+}
+
+/// The process and the round on which the simulator's next step works.
+fn turn_of(subject: &Subject<'_>, mind: &Mind) -> Option<(usize, usize)>
+    requires { IsMind subject.now.spec.now mind.now }
+    ensures process { IfSome result (λ turn. turn.0 < processes subject.now.spec.now) }
+    ensures round { IfSome result (λ turn. (1 ≤ turn.1) × (turn.1 ≤ subject.now.spec.now.rounds)) }
+{
+    let process = mind.works_on(subject.spec)?;
+    let round = usize::from(mind.goal(process).round());
+    if process < subject.spec.n() && round >= 1 && round <= subject.spec.rounds() {
+        Some((process, round))
+    } else {
+        None
+    }
+}
+
+/// The simulator has counted its write of this round: others can read the value.
+fn pass_value(subject: &Subject<'_>, i: usize, process: usize, round: usize, said: &mut Said)
+    requires simulator { i < subject.now.spec.now.simulators }
+    requires process { process < processes subject.now.spec.now }
+    requires round { (1 ≤ round) × (round ≤ subject.now.spec.now.rounds) }
+    requires said { AreSaid subject.now.spec.now said.old }
+    ensures { SaysNoMore subject.now.spec.now said.old said.new }
+{
+    let value = Place::Value {
+        simulator: i,
+        process,
+        round,
+    };
+    said.publish(index(&subject.spec.shape(), value));
+}
+
+/// The simulator has left the agreement: others can read its proposal, or none ever will.
+fn pass_view(
+    subject: &Subject<'_>,
+    i: usize,
+    process: usize,
+    round: usize,
+    withdrawn: bool,
+    said: &mut Said,
+)
+    requires simulator { i < subject.now.spec.now.simulators }
+    requires process { process < processes subject.now.spec.now }
+    requires round { (1 ≤ round) × (round ≤ subject.now.spec.now.rounds) }
+    requires said { AreSaid subject.now.spec.now said.old }
+    ensures { SaysNoMore subject.now.spec.now said.old said.new }
+{
+    let shape = subject.spec.shape();
+    for word in 0..shape.memory_words() {
+        let view = Place::View {
+            simulator: i,
+            process,
+            round,
+            word,
+        };
+        pass_word(index(&shape, view), withdrawn, said);
+    }
+}
+
+/// One word of its proposal.
+fn pass_word(index: usize, withdrawn: bool, said: &mut Said)
+    requires shown { index < length said.old.shown.items }
+    requires own { index < length said.old.own.items }
+    ensures { (spec : RoomSpec) → SaysNoMore spec said.old said.new }
+{
+    if withdrawn {
+        said.forget(index);
+    } else {
+        said.publish(index);
+    }
 }
 
 /// The same words once more.

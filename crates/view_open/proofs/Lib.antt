@@ -1,3 +1,4 @@
 mod Following
 mod Floats
 mod Showing
+mod Noting

@@ -12,7 +12,6 @@ use Rattle.script_play.specs.declared.following.Order.TheVariants as orders
 use Rattle.run_search.specs.Outcomes.{Ends}
 use Rattle.room_search.specs.declared.beginning.Act.{Act}
 use Rattle.room_search.specs.declared.beginning.Act.TheVariants as acts
-use Rattle.view_open.specs.declared.log.Noted.{Noted}
 use Rattle.view_open.specs.declared.log.What.{What}
 use Rattle.view_open.specs.declared.log.What.TheVariants.{Opened, Did}
 
@@ -43,6 +42,12 @@ what_by (commands.Settle name) reply = settled_by reply
 what_by (commands.Report name) reply = None
 what_by (commands.Close name) reply = None
 
+-- what a command did to the room of its name, and the outcomes that are open after it, if all are known
+pub record Noted : Type 0 where
+  pub name : List ℕ
+  pub what : What
+  pub known : Option (Vec Ends)
+
 -- ---- all that was done to the room of one name since it was opened
 
 abbrev pub acts_after : List Act → What → List Act
@@ -50,7 +55,7 @@ acts_after acts Opened = []
 acts_after acts (Did act) = acts ++ act ∷ []
 
 abbrev pub acts_with : List ℕ → List Act → Noted → List Act
-acts_with name acts one = if bytes_eq name one.name.items then acts_after acts one.what else acts
+acts_with name acts one = if bytes_eq name one.name then acts_after acts one.what else acts
 
 abbrev pub acts_of : List ℕ → List Noted → List Act
 acts_of name log = fold (λ acts one. acts_with name acts one) [] log
@@ -70,7 +75,7 @@ abbrev pub known_after : List Ends → Noted → List Ends
 known_after known one = known_if (known_before known one.what) one.known
 
 abbrev pub known_with : List ℕ → List Ends → Noted → List Ends
-known_with name known one = if bytes_eq name one.name.items then known_after known one else known
+known_with name known one = if bytes_eq name one.name then known_after known one else known
 
 abbrev pub known_of : List ℕ → List Noted → List Ends
 known_of name log = fold (λ known one. known_with name known one) [] log

@@ -1,8 +1,9 @@
 //! What was done to the rooms of a script.
-ghost use Rattle.std.specs.Prelude.{◌≡◌, IfOk, OnOk};
-ghost use Rattle.std.specs.Str.{bytes_eq};
-ghost use Rattle.view_open.specs.Logs.{acts_after, acts_of, acts_with, known_after, known_before, known_of, known_with, what_in};
+ghost use Rattle.std.specs.Prelude.{◌≡◌, [], OnOk, Some};
+ghost use Rattle.view_open.specs.Logs.{acts_after, known_before, known_if, what_in};
+ghost use Rattle.view_open.specs.Pasts.{KeepOthers, acts_kept, known_kept, past_at};
 
+use indexmap::IndexMap;
 use room_search::Act;
 use run_search::Ends;
 use script_play::Order;
@@ -14,15 +15,6 @@ use std::alloc::{AllocError, Global};
 pub(crate) enum What {
     Opened,
     Did(Act),
-}
-
-/// What a command did to the room of this name.
-#[derive(Drop)]
-pub(crate) struct Noted {
-    pub(crate) name: Vec<u8>,
-    pub(crate) what: What,
-    /// The outcomes that are open after it, if all are known.
-    pub(crate) known: Option<Vec<Ends>>,
 }
 
 /// What a command did to the room of its name, by its reply. `None` if it changed none.
@@ -53,84 +45,90 @@ pub(crate) fn what_in(order: Order, reply: &Reply) -> Option<What>
     }
 }
 
-/// All that was done to the room of this name since it was opened.
-pub(crate) fn acts_of(alloc: Global, name: &[u8], log: &[Noted]) -> Result<Vec<Act>, AllocError>
-    ensures { IfOk result (λ acts. acts.items ≡ acts_of name.now log.now) }
-{
-    let mut acts = Vec::new(alloc);
-    for one in log {
-        add_if_named(&mut acts, name, one)?;
-    }
-    Ok(acts)
+/// All that was done to a room since it was opened, and the outcomes that were open in it when all were known last.
+#[derive(Drop)]
+pub(crate) struct Past {
+    pub(crate) acts: Vec<Act>,
+    pub(crate) known: Vec<Ends>,
 }
 
-fn add_if_named(acts: &mut Vec<Act>, name: &[u8], one: &Noted) -> Result<(), AllocError>
-    ensures { OnOk result (acts.new.items ≡ acts_with name.now acts.old.items one.now) }
-{
-    if is_of(one, name) {
-        return add(acts, one.what);
-    }
-    Ok(())
-}
-
-/// Adds what was done to a room.
-pub(crate) fn add(acts: &mut Vec<Act>, what: What) -> Result<(), AllocError>
-    ensures { OnOk result (acts.new.items ≡ acts_after acts.old.items what) }
-{
-    match what {
-        What::Opened => {
-            acts.clear();
-            Ok(())
-        }
-        What::Did(act) => {
-            acts.push(act)?;
-            Ok(())
+impl Past {
+    /// Nothing was done, and nothing is known.
+    fn new(alloc: Global) -> Past
+        ensures acts { result.acts.items ≡ [] }
+        ensures known { result.known.items ≡ [] }
+    {
+        Past {
+            acts: Vec::new(alloc),
+            known: Vec::new(alloc),
         }
     }
-}
 
-/// Whether it was done to the room of this name.
-fn is_of(one: &Noted, name: &[u8]) -> bool
-    ensures { result ≡ bytes_eq name.now one.now.name.items }
-{
-    name == one.name.as_slice()
-}
-
-/// The outcomes that were open in the room of this name when all were known last, since it was opened.
-pub(crate) fn known_of<'a>(name: &[u8], log: &'a [Noted]) -> &'a [Ends]
-    ensures { result.now ≡ known_of name.now log.now }
-{
-    let mut known: &[Ends] = &[];
-    for one in log {
-        known = known_with(known, name, one);
+    /// Adds what was done. To open the room is to begin anew: nothing was done before, and nothing is known.
+    pub(crate) fn add(&mut self, what: What) -> Result<(), AllocError>
+        ensures acts { OnOk result (self.new.acts.items ≡ acts_after self.old.acts.items what) }
+        ensures known { OnOk result (self.new.known.items ≡ known_before self.old.known.items what) }
+    {
+        match what {
+            What::Opened => {
+                self.acts.clear();
+                self.known.clear();
+                Ok(())
+            }
+            What::Did(act) => {
+                self.acts.push(act)?;
+                Ok(())
+            }
+        }
     }
-    known
-}
 
-fn known_with<'a>(known: &'a [Ends], name: &[u8], one: &'a Noted) -> &'a [Ends]
-    ensures { result.now ≡ known_with name.now known.now one.now }
-{
-    if is_of(one, name) {
-        return known_after(known, one);
-    }
-    known
-}
-
-fn known_after<'a>(known: &'a [Ends], one: &'a Noted) -> &'a [Ends]
-    ensures { result.now ≡ known_after known.now one.now }
-{
-    match &one.known {
-        Some(all) => all.as_slice(),
-        None => known_before(known, one.what),
+    /// Keeps the outcomes that are open, if all are known.
+    pub(crate) fn learn(&mut self, known: Option<Vec<Ends>>)
+        ensures acts { self.new.acts.items ≡ self.old.acts.items }
+        ensures known { self.new.known.items ≡ known_if self.old.known.items known }
+    {
+        if let Some(all) = known {
+            self.known = all;
+        }
     }
 }
 
-/// The outcomes that were known to be open before this: none if the room is opened.
-pub(crate) fn known_before(known: &[Ends], what: What) -> &[Ends]
-    ensures { result.now ≡ known_before known.now what }
-{
-    match what {
-        What::Opened => &[],
-        What::Did(_) => known,
+/// What was done to the rooms of a script, by their names.
+#[derive(Drop)]
+pub(crate) struct Pasts {
+    rooms: IndexMap<Vec<u8>, Past>,
+}
+
+impl Pasts {
+    /// Nothing was done to any room.
+    pub(crate) fn new(alloc: Global) -> Pasts
+        ensures { result.rooms.entries ≡ [] }
+    {
+        Pasts {
+            rooms: IndexMap::new(alloc),
+        }
+    }
+
+    /// Takes out what was done to the room of this name.
+    pub(crate) fn take(&mut self, alloc: Global, name: &[u8]) -> Past
+        ensures acts { result.acts.items ≡ acts_kept (past_at self.old.rooms.entries name.now) }
+        ensures known { result.known.items ≡ known_kept (past_at self.old.rooms.entries name.now) }
+        ensures others { KeepOthers self.old.rooms.entries name.now self.new.rooms.entries }
+    {
+        match self.rooms.swap_remove(name) {
+            Some(past) => past,
+            None => Past::new(alloc),
+        }
+    }
+
+    /// Keeps what was done to the room of this name.
+    pub(crate) fn put(&mut self, alloc: Global, name: &[u8], past: Past) -> Result<(), AllocError>
+        ensures own { OnOk result (past_at self.new.rooms.entries name.now ≡ Some past) }
+        ensures others { OnOk result (KeepOthers self.old.rooms.entries name.now self.new.rooms.entries) }
+    {
+        let mut copy = Vec::with_capacity(alloc, name.len())?;
+        copy.extend_from_slice(name)?;
+        self.rooms.insert(copy, past)?;
+        Ok(())
     }
 }

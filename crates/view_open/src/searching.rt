@@ -6,7 +6,7 @@ ghost use Rattle.view_open.specs.Open.{IsFoundOpen, crashes_for, is_complete, kn
 use crate::plan::OpenPlan;
 use room_search::{Beginning, Reach, Reached, ends_in, search_after};
 use room_spec::Spec;
-use run_search::{Ends, SearchFault, Silent};
+use run_search::{Ends, Progress, SearchFault};
 use std::alloc::{AllocError, Global};
 
 /// The outcomes that a search has found to be open in a room.
@@ -20,16 +20,17 @@ pub(crate) struct Found {
 }
 
 /// Finds the outcomes that are open in a room. `None` if there are more nodes than are searched at most.
-pub(crate) fn find_open(
+pub(crate) fn find_open<P: Progress>(
     alloc: Global,
     plan: &OpenPlan,
     from: &Beginning<'_>,
+    progress: &mut P,
 ) -> Result<Option<Found>, AllocError>
     ensures { IfOk result (λ found. IfSome found (IsFoundOpen plan.now from.now.spec.now from.now.acts.now)) }
 {
     let _shape = from.spec.shape(); // for the proof: the room is within its limits
     let crashes = crashes_for(from.spec, plan.crashes);
-    match search_after(alloc, from, crashes, plan.nodes, &mut Silent) {
+    match search_after(alloc, from, crashes, plan.nodes, progress) {
         Ok(reach) => Ok(Some(found_in(alloc, &reach)?)),
         Err(SearchFault::TooManyNodes) => Ok(None),
         Err(SearchFault::OutOfMemory) => Err(AllocError),

@@ -1,12 +1,11 @@
 //! What is said of a script as it goes on.
-ghost use Rattle.std.specs.Prelude.{◌≡◌, ◌++◌, ◌&&◌, [], true, IfOk, IfSome, OnOk};
+ghost use Rattle.std.specs.Prelude.{◌≡◌, ◌&&◌, [], true, IfOk, IfSome, OnOk};
 ghost use Rattle.service_core.specs.Rooms.{room_at};
-ghost use Rattle.view_open.specs.Logs.{acts_after, acts_of, known_before, known_of};
 ghost use Rattle.view_open.specs.Open.{IsFoundOpen, is_complete};
-ghost use Rattle.view_open.specs.Watched.{AddsNote, IsNoted, IsPlain, IsSearched, IsShown, open_shown};
+ghost use Rattle.view_open.specs.Watched.{Does, IsNoted, IsSearched, Writes, open_shown, plain_shown};
 
 use crate::json::{Said, write_open_object, write_reply_object};
-use crate::log::{Noted, What, acts_of, add, known_before, known_of, what_in};
+use crate::log::{Past, Pasts, What, what_in};
 use crate::plan::OpenPlan;
 use crate::searching::{Found, crashes_for, find_open, is_complete, known_in};
 use crate::text::write_open;
@@ -15,6 +14,7 @@ use room_core::Unobserved;
 use room_files::{write_refused, write_refused_code};
 use room_search::Beginning;
 use room_spec::{Spec, SpecFault};
+use run_search::{Ends, Progress};
 use script_play::{Asked, Follows, write_reply};
 use service_core::{Refusal, Reply, Service};
 use std::alloc::{AllocError, Global};
@@ -24,7 +24,7 @@ use std::alloc::{AllocError, Global};
 pub(crate) struct Watcher {
     alloc: Global,
     plan: OpenPlan,
-    log: Vec<Noted>,
+    pasts: Pasts,
     pub(crate) output: Text,
     /// Whether each search has found all outcomes that are open.
     pub(crate) well: bool,
@@ -33,28 +33,29 @@ pub(crate) struct Watcher {
 impl Watcher {
     pub(crate) fn new(alloc: Global, plan: &OpenPlan) -> Watcher
         ensures plan { result.plan ≡ plan.now }
-        ensures log { result.log.items ≡ [] }
+        ensures pasts { result.pasts.rooms.entries ≡ [] }
         ensures output { result.output ≡ [] }
         ensures well { result.well ≡ true }
     {
         Watcher {
             alloc,
             plan: *plan,
-            log: Vec::new(alloc),
+            pasts: Pasts::new(alloc),
             output: Text::new(alloc),
             well: true,
         }
     }
 
     /// Follows a command to the room of this name, of which `play` writes these words. It did this, if it changed the room.
-    fn follow(
+    fn follow<P: Progress>(
         &mut self,
         name: &[u8],
         words: &[u8],
         what: Option<What>,
         rooms: &Service,
+        progress: &mut P,
     ) -> Result<(), AllocError>
-        ensures { OnOk result (IsNoted self.old name.now words.now what (room_at rooms.now name.now) self.new) }
+        ensures { OnOk result (Does (λ so_far next. IsNoted so_far name.now words.now what (room_at rooms.now name.now) next) self.old self.new) }
     {
         let Some(what) = what else {
             return self.show_plainly(words);
@@ -62,12 +63,12 @@ impl Watcher {
         let Some(room) = rooms.room(name) else {
             return self.show_plainly(words);
         };
-        self.search(name, words, what, room.spec())
+        self.search(name, words, what, room.spec(), progress)
     }
 
     /// Writes what `play` writes, and no more; in JSON its first line.
     fn show_plainly(&mut self, words: &[u8]) -> Result<(), AllocError>
-        ensures { OnOk result (IsPlain self.old words.now self.new) }
+        ensures { OnOk result (Writes self.old (plain_shown self.old.plan.json words.now) self.new) }
     {
         if self.plan.json {
             return write_reply_object(self.alloc, &mut self.output, words);
@@ -76,46 +77,51 @@ impl Watcher {
     }
 
     /// Finds the outcomes that are open after this was done to the room of this name, and writes them.
-    fn search(
+    fn search<P: Progress>(
         &mut self,
         name: &[u8],
         words: &[u8],
         what: What,
         spec: &Spec,
+        progress: &mut P,
     ) -> Result<(), AllocError>
-        ensures { OnOk result (IsSearched self.old name.now words.now what spec.now self.new) }
+        ensures { OnOk result (Does (λ so_far next. IsSearched so_far name.now words.now what spec.now next) self.old self.new) }
     {
-        let found = self.find(name, what, spec)?;
-        self.show(name, words, what, spec, &found)?;
+        let mut past = self.pasts.take(self.alloc, name);
+        past.add(what)?;
+        let found = self.find(&past, spec, progress)?;
+        self.show(words, spec, past.known.as_slice(), &found)?;
         self.judge(&found);
-        self.note(name, what, found)
+        past.learn(known_in(found));
+        self.pasts.put(self.alloc, name, past)
     }
 
-    fn find(&self, name: &[u8], what: What, spec: &Spec) -> Result<Option<Found>, AllocError>
-        ensures { IfOk result (λ found. IfSome found (IsFoundOpen self.now.plan spec.now (acts_after (acts_of name.now self.now.log.items) what))) }
+    /// Finds the outcomes that are open in the room to which all this was done.
+    fn find<P: Progress>(
+        &self,
+        past: &Past,
+        spec: &Spec,
+        progress: &mut P,
+    ) -> Result<Option<Found>, AllocError>
+        ensures { IfOk result (λ found. IfSome found (IsFoundOpen self.now.plan spec.now past.now.acts.items)) }
     {
-        let mut acts = acts_of(self.alloc, name, self.log.as_slice())?;
-        add(&mut acts, what)?;
         let from = Beginning {
             spec,
-            acts: acts.as_slice(),
+            acts: past.acts.as_slice(),
         };
-        let found = find_open(self.alloc, &self.plan, &from)?;
-        Ok(found)
+        find_open(self.alloc, &self.plan, &from, progress)
     }
 
-    /// Writes what was found, as text or as JSON.
+    /// Writes what was found, as text or as JSON, if these outcomes were known to be open before.
     fn show(
         &mut self,
-        name: &[u8],
         words: &[u8],
-        what: What,
         spec: &Spec,
+        known: &[Ends],
         found: &Option<Found>,
     ) -> Result<(), AllocError>
-        ensures { OnOk result (IsShown self.old (open_shown self.old.plan spec.now words.now (known_before (known_of name.now self.old.log.items) what) found.now) self.new) }
+        ensures { OnOk result (Writes self.old (open_shown self.old.plan spec.now words.now known.now found.now) self.new) }
     {
-        let known = known_before(known_of(name, self.log.as_slice()), what);
         if self.plan.json {
             let said = Said {
                 alloc: self.alloc,
@@ -134,36 +140,29 @@ impl Watcher {
     fn judge(&mut self, found: &Option<Found>)
         ensures well { self.new.well ≡ (self.old.well && is_complete found.now) }
         ensures plan { self.new.plan ≡ self.old.plan }
-        ensures log { self.new.log.items ≡ self.old.log.items }
+        ensures pasts { self.new.pasts ≡ self.old.pasts }
         ensures output { self.new.output ≡ self.old.output }
     {
         self.well = self.well && is_complete(found);
     }
-
-    /// Notes what was done, and what is open.
-    fn note(&mut self, name: &[u8], what: What, found: Option<Found>) -> Result<(), AllocError>
-        ensures { OnOk result (AddsNote self.old name.now what found self.new) }
-    {
-        let mut copy = Vec::with_capacity(self.alloc, name.len())?;
-        copy.extend_from_slice(name)?;
-        self.log.push(Noted {
-            name: copy,
-            what,
-            known: known_in(found),
-        })?;
-        Ok(())
-    }
 }
 
-impl Follows for Watcher {
+/// One who says what is open after each command of a script, and shows how far each search is.
+#[derive(Drop)]
+pub(crate) struct Follower<'p, P> {
+    pub(crate) watcher: Watcher,
+    pub(crate) progress: &'p mut P,
+}
+
+impl<P: Progress> Follows for Follower<'_, P> {
     ghost use Rattle.std.specs.Prelude.{◌≡◌};
-    ghost use Rattle.view_open.specs.Watched.{IsFollowed};
+    ghost use Rattle.view_open.specs.Watched.{Does, IsFollowed};
 
     type Watch = Unobserved;
 
-    ghost follows = { IsFollowed };
+    ghost follows = { λ old rooms done after new. Does (λ so_far next. IsFollowed so_far rooms done after next) old.watcher new.watcher };
 
-    ghost readies = { λ old rooms command new watch. new ≡ old };
+    ghost readies = { λ old rooms command new watch. new.watcher ≡ old.watcher };
 
     fn opens(
         &mut self,
@@ -190,21 +189,23 @@ impl Follows for Watcher {
         _watch: &mut Option<Unobserved>,
         rooms: &Service,
     ) -> Result<(), AllocError> {
-        let mut words = Text::new(self.alloc);
+        let mut words = Text::new(self.watcher.alloc);
         write_reply(&mut words, asked.name, asked.order.sim(), &reply)?;
         let what = what_in(asked.order, &reply);
-        self.follow(asked.name, words.as_bytes(), what, rooms)
+        let words = words.as_bytes();
+        self.watcher
+            .follow(asked.name, words, what, rooms, self.progress)
     }
 
     fn refuse(&mut self, line: u64, fault: SpecFault) -> Result<(), AllocError> {
-        let mut words = Text::new(self.alloc);
+        let mut words = Text::new(self.watcher.alloc);
         write_refused(&mut words, line, fault)?;
-        self.show_plainly(words.as_bytes())
+        self.watcher.show_plainly(words.as_bytes())
     }
 
     fn out_of_memory(&mut self, line: u64) -> Result<(), AllocError> {
-        let mut words = Text::new(self.alloc);
+        let mut words = Text::new(self.watcher.alloc);
         write_refused_code(&mut words, line, Refusal::OutOfMemory.code())?;
-        self.show_plainly(words.as_bytes())
+        self.watcher.show_plainly(words.as_bytes())
     }
 }

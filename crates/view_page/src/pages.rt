@@ -12,6 +12,7 @@ use decision_tasks::DecisionTask;
 use file_faults::{Kind, script_faults, transcript_faults};
 use io_text::Text;
 use room_files::{Answer, InputFault, Outcome};
+use run_search::Progress;
 use script_play::PlayText;
 use std::alloc::{AllocError, Global};
 use step_page::{FileKind, begin_page, end_page, put_file, put_open};
@@ -138,18 +139,24 @@ pub fn page_of_kept(
     })
 }
 
-/// The page that steps through a script, and says which outcomes its rooms' simulators can still reach after each command.
+/// The page that steps through a script, and says which outcomes its rooms' simulators can still reach after each command. Reports how many nodes of a room have been
+/// searched after a command.
 ///
 /// # Errors
 ///
 /// As of [`page`].
-pub fn page_of_open(alloc: Global, script: &[u8], plan: &OpenPlan) -> Result<PlayText, InputFault>
+pub fn page_of_open<P: Progress>(
+    alloc: Global,
+    script: &[u8],
+    plan: &OpenPlan,
+    progress: &mut P,
+) -> Result<PlayText, InputFault>
     requires { length script.now ≤ most_bytes }
     ensures text { IfOk result (λ paged. IsOpenPage plan.now script.now paged.ending paged.output) }
     ensures err { IfErr result (IsFaultOf (first_fault Script script.now)) }
 {
     let traced = trace_json(alloc, script)?;
-    let openings = open_outcomes(alloc, &as_json(plan), script)?;
+    let openings = open_outcomes(alloc, &as_json(plan), script, progress)?;
     let mut output = Text::new(alloc);
     begin_page(&mut output)?;
     put_file(

@@ -1,27 +1,19 @@
-use Rattle.std.proofs.Common.{ℕ, List, subst, sym}
-use Rattle.std.specs.Prelude.{MatchOption, Option}
-use Rattle.room_search.specs.declared.stepping.Stepped.{Stepped}
-use Rattle.room_search.specs.Steps.{HasStep, IsStepOf}
-use Rattle.room_search.proofs.Sets.{never_absent, numbers_grown, numbers_put, place_of}
+use Rattle.std.proofs.Common.{◌<◌, length, sym, subst}
+use Rattle.room_search.specs.Moving.{IsWithinLead}
+use Rattle.room_search.proofs.Sets.{numbers_grown, numbers_put, place_of}
 use Rattle.room_search.proofs.closing.go_alone.Goals as goal
 
-pub unreachable-requires : goal.unreachable-requires
-unreachable-requires c =
-    let there = place_of c.args.set.now.items c.args.at c.index.result.now c.requires.there c.index.ensures in
-    never_absent c.args.table.now.keys c.index.result.now c.in_default.ensures.key (c.requires.numbers c.index.result.now there)
+pub lead-requires-clause-number : goal.lead-requires-clause-number
+lead-requires-clause-number c = c.requires.numbers c.index.result.now (place_of c.args.set.now.items c.args.at c.index.result.now c.requires.there c.index.ensures)
 
-pub after_step-requires-clause-known : goal.after_step-requires-clause-known
-after_step-requires-clause-known c = c.requires.known c.index.result.now c.in-Some.known.now (sym c.in-Some.ensures.key)
+pub returns-in_default-clause-numbers : goal.returns-in_default-clause-numbers
+returns-in_default-clause-numbers c = numbers_grown c.args.moves.now.table.keys c.lead.new.self.table.keys c.args.set.now.items c.in_ok-lead.ensures.moves.table c.requires.numbers
 
-pub returns-clause-known : goal.returns-clause-known
-returns-clause-known c =
-    let spec = c.args.subject.now.spec.now in
-    let known = c.in-Some.known.now in
-    let step : IsStepOf spec c.args.words.now.items known c.in-Some-2.after =
-    subst (λ (o : Option Stepped). MatchOption o (HasStep spec known → ⊥) (IsStepOf spec c.args.words.now.items known)) c.in-Some-2.is (subst (λ (w : List ℕ). MatchOption c.in_ok-after.field-0 (HasStep spec known → ⊥) (IsStepOf spec w known)) c.deref.ensures.value c.in_ok-after.ensures) in
-    c.in_ok-number.ensures.known spec step.is_known c.requires.known
+pub returns-in_ok-put-clause-numbers : goal.returns-in_ok-put-clause-numbers
+returns-in_ok-put-clause-numbers c =
+    let new = c.lead.new.self in
+    let within = subst (IsWithinLead new.said.keys new.table.keys) c.in-To.is c.in_ok-lead.ensures.within in
+    numbers_put new.table.keys c.args.set.now.items c.put.new.set.items c.in-To.number c.in_ok-put.ensures.added within.1 (numbers_grown c.args.moves.now.table.keys new.table.keys c.args.set.now.items c.in_ok-lead.ensures.moves.table c.requires.numbers)
 
-pub returns-clause-numbers : goal.returns-clause-numbers
-returns-clause-numbers c =
-    numbers_put c.numbered.new.table.keys c.args.set.now.items c.put.new.set.items c.in_ok-number.number c.in-Some-2.after.known c.in_ok-put.ensures.added c.in_ok-number.ensures.there
-    (numbers_grown c.args.table.now.keys c.numbered.new.table.keys c.args.set.now.items c.in_ok-number.ensures.grown c.requires.numbers)
+pub returns-else-after-said-clause-numbers : goal.returns-else-after-said-clause-numbers
+returns-else-after-said-clause-numbers c = numbers_grown c.args.moves.now.table.keys c.lead.new.self.table.keys c.args.set.now.items c.in_ok-lead.ensures.moves.table c.requires.numbers

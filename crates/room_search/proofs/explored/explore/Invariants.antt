@@ -8,8 +8,8 @@ use Rattle.room_search.proofs.explored.explore.Given as goal
 abbrev pub invariant-loop-cursor : goal.invariant-loop-cursor
 invariant-loop-cursor g l = record {
   searched : IsSearched l.subject.spec.now l.explored;
-  start : HaveRoom l.explored.table.keys l.explored.nodes.items (configuration_of l.subject.start.now);
-  leads : (index : ℕ) (node : Node) → index < l.cursor → slice_get l.explored.nodes.items index ≡ Some node → LeadsInside l.subject.spec.now l.explored.table.keys l.explored.nodes.items node;
+  start : HaveRoom l.explored.moves.table.keys l.explored.nodes.items (configuration_of l.subject.start.now);
+  leads : (index : ℕ) (node : Node) → index < l.cursor → slice_get l.explored.nodes.items index ≡ Some node → LeadsInside l.subject.spec.now (configuration_of l.subject.start.now) l.explored.moves.table.keys l.explored.nodes.items l.explored.lost node;
   within : l.cursor ≤ l.limit;
 }
 

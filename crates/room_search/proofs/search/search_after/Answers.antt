@@ -1,6 +1,5 @@
-use Rattle.std.proofs.Common.{subst, sym}
+use Rattle.std.proofs.Common.{sym, subst}
 use Rattle.room_core.specs.Calls.{RoomState}
-use Rattle.room_search.specs.Ends.{AreEndsFound}
 use Rattle.room_search.specs.Reaching.{IsOpen}
 use Rattle.room_search.proofs.Completing.{found_all}
 use Rattle.room_search.proofs.Covering.{node_at}
@@ -16,10 +15,9 @@ returns-clause-complete g c = λ zero outcome opened.
     let spec = c.args.from.now.spec.now in
     let explored = c.in_ok-explored.explored in
     let taking = c.in_ok-taken.taken.taking in
-    found_all spec c.args.crashes c.in_ok-start.start explored.table.keys explored.nodes.items taking.done.keys taking.outcomes.items c.shape-shape.ensures.limits c.each_is_settled_for.ensures.each c.in_ok-explored.ensures.covers
-    (λ node there. c.in_ok-taken.ensures.all zero there.0 node (node_at explored.nodes.items node there))
-    (λ words among. subst (AreEndsFound spec taking.outcomes.items) among.2 (c.in_ok-taken.ensures.taking.done among.0 among.1))
-    outcome (subst (λ (room : RoomState). IsOpen room spec c.args.crashes outcome) (sym c.in_ok-start.ensures) opened)
+    found_all spec c.args.crashes c.in_ok-start.start explored.moves.table.keys explored.nodes.items taking.outcomes.items c.shape-shape.ensures.limits c.each_is_settled_for.ensures.each
+    (c.in_ok-explored.ensures.covers (c.in_ok-taken.ensures.lost zero)) (λ node there. c.in_ok-taken.ensures.all zero there.0 node (node_at explored.nodes.items node there)) outcome
+    (subst (λ (room : RoomState). IsOpen room spec c.args.crashes outcome) (sym c.in_ok-start.ensures) opened)
 
 pub returns-clause-distinct : goal.returns-clause-distinct
 returns-clause-distinct g c = once c.in_ok-taken.taken.taking.ends.keys c.in_ok-taken.taken.taking.outcomes.items c.in_ok-taken.ensures.taking.kept c.len-count.ensures.unique

@@ -2,6 +2,7 @@ use Rattle.std.proofs.Common.{◌≡◌, ◌<◌, ◌∙◌, inl, inr, ℕ, List
 use Rattle.std.specs.Prelude.{slice_get}
 use Rattle.std.proofs.lemmas.Bool.{cases_eq}
 use Rattle.std.proofs.lemmas.Option.{get_or_from_slice_get}
+use Rattle.room_core.specs.Calls.{configuration_of}
 use Rattle.room_search.specs.Beginnings.{begun}
 use Rattle.room_search.specs.Nodes.{Node}
 use Rattle.room_search.specs.Taking.{IsTaken}
@@ -19,12 +20,13 @@ take_first-requires-clause-taking c = c.nothing-taking.ensures c.args.subject.no
 pub loop-place-preserved : goal.loop-place-preserved
 loop-place-preserved c =
     let spec = c.args.subject.now.spec.now in
+    let start = configuration_of c.args.subject.now.start.now in
     let explored = c.args.explored.now in
-    let old = c.loop-place.taking.done.keys in
-    let new = c.take.new.self.done.keys in
-    let grown : (node : Node) → IsTaken spec c.args.crashes explored.table.keys old node → IsTaken spec c.args.crashes explored.table.keys new node =
-    λ node taken. taken_grown spec c.args.crashes explored.table.keys old new node c.in_ok-take.ensures.grown taken in
-    let here : c.if-not-branch.missed ≡ 0 → (k : ℕ) (node : Node) → slice_get c.in_ok-left.left.items c.loop-place.place ≡ Some k → slice_get explored.nodes.items k ≡ Some node → IsTaken spec c.args.crashes explored.table.keys new node
+    let old = c.loop-place.taking.outcomes.items in
+    let new = c.take.new.self.outcomes.items in
+    let grown : (node : Node) → IsTaken spec start c.args.crashes explored.moves.table.keys old node → IsTaken spec start c.args.crashes explored.moves.table.keys new node =
+    λ node taken. taken_grown spec start c.args.crashes explored.moves.table.keys old new node c.in_ok-take.ensures.grown taken in
+    let here : c.if-not-branch.missed ≡ 0 → (k : ℕ) (node : Node) → slice_get c.in_ok-left.left.items c.loop-place.place ≡ Some k → slice_get explored.nodes.items k ≡ Some node → IsTaken spec start c.args.crashes explored.moves.table.keys new node
     = λ zero k node at there. elim c.if-not-branch.branch [
       | then-not-branch w ↦ let more = w.saturating_add-missed.ensures in let missed = w.missed-is in absurd (omega (arith, zero, missed, more))
       | else-not-branch w ↦
@@ -37,6 +39,7 @@ loop-place-preserved c =
     ] in
     record {
       taking = c.in_ok-take.ensures.taking;
+      lost = λ zero. c.loop-place.invariant.lost (before zero);
       first = λ k node there. elim (c.loop-place.invariant.first k node there) [
         | inl taken ↦ inl (grown node taken)
         | inr waits ↦ inr waits

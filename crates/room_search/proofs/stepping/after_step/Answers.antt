@@ -1,20 +1,11 @@
-use Rattle.room_search.proofs.Steps.{as_many_words, has_step, known_is_one, known_then, words_then}
+use Rattle.std.proofs.Common.{ap, ◌∙◌}
+use Rattle.room_search.proofs.Steps.{step_of}
 use Rattle.room_search.proofs.stepping.after_step.Goals as goal
 
 pub returns : goal.returns
 returns c =
-    let spec = c.args.subject.now.spec.now in
-    let words = c.args.words.now in
-    let known = c.args.known.now in
-    let mind = c.knowing-mind.result in
-    let next = c.next_move-next.result in
-    let mind_is = c.knowing-mind.ensures in
-    let next_is = c.next_move-next.ensures.value in
-    let after_is = words_then spec words known mind next mind_is next_is c.in_ok-after.after.items c.in_ok-after.ensures.words in
-    record {
-      has = has_step spec words known mind next mind_is next_is c.if-not-is_operation.ensures;
-      known_is = known_then spec words known mind next mind_is next_is c.in_ok-after.answer c.take.new.self c.knowledge.result c.in_ok-after.ensures.answer c.take.ensures.mind c.knowledge.ensures;
-      words_are = after_is;
-      is_known = known_is_one spec c.take.new.self c.knowledge.result c.take.ensures.is_mind c.knowledge.ensures;
-      are_words = as_many_words spec words c.in_ok-after.after.items known c.requires.words after_is;
-    }
+    let done = c.in-Some.ensures in
+    step_of c.args.subject.now.spec.now c.args.i c.args.local.now c.knowing-mind.result c.take.new.self c.next_move-next.result c.in-Some.answer c.args.said.now (record { known = c.knowledge.result; said = c.pass_on.new.said }) c.in_ok-said.said c.operate.new.self
+    c.knowing-mind.ensures c.next_move-next.ensures.value c.if-not-is_operation.ensures c.in_ok-said.ensures.shown (c.in_ok-said.ensures.own ∙ c.deref.ensures.value)
+    (record { answer_is = done.answer; words = done.words; own = done.own; stays = done.stays; are = c.operate.ensures.said; more = c.pass_on.ensures })
+    c.take.ensures.mind c.take.ensures.is_mind c.knowledge.ensures

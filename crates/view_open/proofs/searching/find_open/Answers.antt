@@ -5,7 +5,7 @@ use Rattle.view_open.specs.Open.{crashes_for}
 use Rattle.view_open.proofs.searching.find_open.Goals as goal
 
 pub returns-in_ok-found_in-in-Ok : goal.returns-in_ok-found_in-in-Ok
-returns-in_ok-found_in-in-Ok c =
+returns-in_ok-found_in-in-Ok g c =
     let reach = c.in-Ok.reach in
     let spec = c.args.from.now.spec.now in
     let P : ℕ → ℕ → Type 0 = λ crashes missed. AreAllOpen (begun spec c.args.from.now.acts.now) spec crashes missed reach.outcomes.items in

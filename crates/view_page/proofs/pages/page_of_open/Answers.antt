@@ -8,7 +8,7 @@ use Rattle.view_page.proofs.Paging.{page_of}
 use Rattle.view_page.proofs.pages.page_of_open.Goals as goal
 
 pub returns-clause-text : goal.returns-clause-text
-returns-clause-text c =
+returns-clause-text g c =
     let script = c.args.script.now in
     let traced = c.in_ok-traced.traced in
     let found = c.in_ok-openings.openings in

@@ -1,83 +1,68 @@
-use Rattle.std.proofs.Common.{List, refl, sym, subst}
-use Rattle.std.specs.Prelude.{MatchOption, Option}
-use Rattle.std.specs.List.{Contains}
-use Rattle.std.proofs.lemmas.List.Elements.{Contains-push}
-use Rattle.std.proofs.lemmas.Option.{slice_get_within}
-use Rattle.simulator.specs.declared.knowledge.Knowledge.{Knowledge}
-use Rattle.room_search.specs.declared.stepping.Stepped.{Stepped}
-use Rattle.room_search.specs.Nodes.{AreKnowledge, AreNodes, Node}
-use Rattle.room_search.specs.Searches.{IsMade}
-use Rattle.room_search.specs.Steps.{HasStep, IsStepOf}
-use Rattle.room_search.proofs.Searching.{below_itself, lead_made, lead_stays, no_lead, node_there, nodes_push}
-use Rattle.room_search.proofs.Sets.{place_there}
+use Rattle.std.proofs.Common.{◌≡◌, true, refl, sym, subst, ◌∙◌}
+use Rattle.std.proofs.lemmas.Bool.{true≢false}
+use Rattle.room_search.specs.declared.moves.Moves.{Moves}
+use Rattle.room_search.specs.Moving.{GoOn, IsLeadOf, IsWithinLead}
+use Rattle.room_search.proofs.Growing.{there_grown}
+use Rattle.room_search.proofs.Moving.{said_grown, said_within}
+use Rattle.room_search.proofs.Searching.{further_by, further_on, lead_here, lost_lead, no_lead, on_ok}
 use Rattle.room_search.proofs.explored.Explored.follow.Goals as goal
 
-pub returns-in_default-clause-leads : goal.returns-in_default-clause-leads
-returns-in_default-clause-leads c = λ node known node_is known_is.
+pub lead-requires-clause-said : goal.lead-requires-clause-said
+lead-requires-clause-said c = let there = c.requires.there in said_within c.args.self.now.moves.said.keys c.args.from.said there.0.said there.2
+
+pub lead-requires-clause-number : goal.lead-requires-clause-number
+lead-requires-clause-number c = let there = c.requires.there in (c.requires.searched.nodes c.args.cursor there.0 there.1).numbers c.args.from.simulator c.requires.simulator c.args.from.number there.3
+
+pub returns-in-Nothing-clause-further : goal.returns-in-Nothing-clause-further
+returns-in-Nothing-clause-further c = further_by c.args.subject.now.spec.now c.args.self.now _ c.in_ok-lead.ensures.moves refl (λ none. none) c.requires.searched
+
+pub returns-in-Nothing-clause-leads : goal.returns-in-Nothing-clause-leads
+returns-in-Nothing-clause-leads c = λ node local node_is local_is.
     let spec = c.args.subject.now.spec.now in
-    no_lead spec c.args.self.now.table.keys c.args.self.now.nodes.items node c.args.origin.simulator known
-    (subst (λ (o : Option Stepped). MatchOption o (HasStep spec known → ⊥) (IsStepOf spec node.words known)) c.in_default.is (c.in_ok-after.ensures node known node_is known_is))
-
-pub stays-requires-clause-there : goal.stays-requires-clause-there
-stays-requires-clause-there c = let there = c.requires.there in slice_get_within c.args.self.now.nodes.items c.args.origin.from there.0 there.1
-
-pub made-requires-clause-there : goal.made-requires-clause-there
-made-requires-clause-there c = let there = c.requires.there in slice_get_within c.args.self.now.nodes.items c.args.origin.from there.0 there.1
-
-pub returns-then-stays-clause-leads : goal.returns-then-stays-clause-leads
-returns-then-stays-clause-leads c = λ node known node_is known_is.
-    let spec = c.args.subject.now.spec.now in
-    let step : IsStepOf spec node.words known c.in-Some.after =
-    subst (λ (o : Option Stepped). MatchOption o (HasStep spec known → ⊥) (IsStepOf spec node.words known)) c.in-Some.is (c.in_ok-after.ensures node known node_is known_is) in
-    let stays = c.stays.ensures c.if-stays.true node node_is in
-    lead_stays spec c.args.self.now.table.keys c.args.self.now.nodes.items node c.args.origin.simulator known c.in-Some.after (node_there c.args.self.now.nodes.items c.args.origin.from node node_is) step stays.0 stays.1
-
-pub made-requires-clause-known : goal.made-requires-clause-known
-made-requires-clause-known c =
-    let spec = c.args.subject.now.spec.now in
+    let old = c.args.self.now.moves in
+    let new = c.lead.new.self in
+    let on = c.in_ok-lead.ensures.moves in
     let there = c.requires.there in
-    let one = place_there c.args.self.now.table.keys c.args.origin.number ((c.requires.searched.nodes c.args.origin.from there.0 there.1).numbers c.args.origin.simulator c.requires.simulator c.args.origin.number there.2) in
-    let step : IsStepOf spec there.0.words one.0 c.in-Some.after =
-    subst (λ (o : Option Stepped). MatchOption o (HasStep spec one.0 → ⊥) (IsStepOf spec there.0.words one.0)) c.in-Some.is (c.in_ok-after.ensures there.0 one.0 there.1 one.1) in
-    step.is_known
+    let from = c.args.from in
+    no_lead spec new.table.keys c.args.self.now.nodes.items c.args.self.now.lost node from.simulator local
+    (subst (IsLeadOf spec new.said.keys new.table.keys node.said from.simulator local) c.in-Nothing.is
+    (lead_here spec new.said.keys new.table.keys c.args.self.now.nodes.items c.args.cursor from c.in_ok-lead.lead there.0 node local c.in_ok-lead.ensures.lead there.1 (said_grown old.said.keys new.said.keys from.said there.0.said on.said there.2) node_is (there_grown old.table.keys new.table.keys from.number local on.table local_is)))
 
-pub made-requires-clause-words : goal.made-requires-clause-words
-made-requires-clause-words c =
+pub returns-in-Lost-clause-further : goal.returns-in-Lost-clause-further
+returns-in-Lost-clause-further c =
     let spec = c.args.subject.now.spec.now in
+    further_by spec c.args.self.now c.lose.new.self (subst (GoOn spec c.args.self.now.moves) (sym c.lose.ensures.moves) c.in_ok-lead.ensures.moves) c.lose.ensures.nodes (λ none. absurd (true≢false (sym c.lose.ensures.lost ∙ none))) c.requires.searched
+
+pub returns-in-Lost-clause-leads : goal.returns-in-Lost-clause-leads
+returns-in-Lost-clause-leads c = λ node local node_is local_is. lost_lead c.args.subject.now.spec.now c.lose.new.self.moves.table.keys c.lose.new.self.nodes.items c.lose.new.self.lost node c.args.from.simulator local c.lose.ensures.lost
+
+pub follow_to-requires-clause-searched : goal.follow_to-requires-clause-searched
+follow_to-requires-clause-searched c = (further_by c.args.subject.now.spec.now c.args.self.now _ c.in_ok-lead.ensures.moves refl (λ none. none) c.requires.searched).searched
+
+pub follow_to-requires-clause-there : goal.follow_to-requires-clause-there
+follow_to-requires-clause-there c = let there = c.requires.there in (there.0, there.1, said_grown c.args.self.now.moves.said.keys c.lead.new.self.said.keys c.args.from.said there.0.said c.in_ok-lead.ensures.moves.said there.2)
+
+pub follow_to-requires-clause-said : goal.follow_to-requires-clause-said
+follow_to-requires-clause-said c = (subst (IsWithinLead c.lead.new.self.said.keys c.lead.new.self.table.keys) c.in-To.is c.in_ok-lead.ensures.within).0
+
+pub follow_to-requires-clause-number : goal.follow_to-requires-clause-number
+follow_to-requires-clause-number c = (subst (IsWithinLead c.lead.new.self.said.keys c.lead.new.self.table.keys) c.in-To.is c.in_ok-lead.ensures.within).1
+
+pub returns-in-To-clause-further : goal.returns-in-To-clause-further
+returns-in-To-clause-further c =
+    let spec = c.args.subject.now.spec.now in
+    on_ok c.follow_to.result (λ further. further_on spec c.args.self.now _ c.follow_to.new.self (further_by spec c.args.self.now _ c.in_ok-lead.ensures.moves refl (λ none. none) c.requires.searched) further) c.follow_to.ensures.further
+
+pub returns-in-To-clause-leads : goal.returns-in-To-clause-leads
+returns-in-To-clause-leads c =
+    let spec = c.args.subject.now.spec.now in
+    let old = c.args.self.now.moves in
+    let new = c.lead.new.self in
+    let on = c.in_ok-lead.ensures.moves in
     let there = c.requires.there in
-    let one = place_there c.args.self.now.table.keys c.args.origin.number ((c.requires.searched.nodes c.args.origin.from there.0 there.1).numbers c.args.origin.simulator c.requires.simulator c.args.origin.number there.2) in
-    let step : IsStepOf spec there.0.words one.0 c.in-Some.after =
-    subst (λ (o : Option Stepped). MatchOption o (HasStep spec one.0 → ⊥) (IsStepOf spec there.0.words one.0)) c.in-Some.is (c.in_ok-after.ensures there.0 one.0 there.1 one.1) in
-    step.are_words
-
-pub returns-in_ok-add-clause-searched : goal.returns-in_ok-add-clause-searched
-returns-in_ok-add-clause-searched c =
-    let spec = c.args.subject.now.spec.now in
-    let there = c.requires.there in
-    let table = c.made.new.self.table.keys in
-    let nodes = c.made.new.self.nodes.items in
-    let searched = c.in_ok-to.ensures.searched in
-    let made = c.in_ok-to.ensures.made there.0 there.1 in
-    record {
-      known = subst (AreKnowledge spec) (sym c.in_ok-add.ensures.table) searched.known;
-      nodes = subst (λ (t : List Knowledge). AreNodes spec t c.add.new.self.nodes.items) (sym c.in_ok-add.ensures.table)
-          (subst (AreNodes spec table) (sym c.in_ok-add.ensures.nodes) (nodes_push spec table nodes c.in_ok-to.to searched.nodes made.is));
-    }
-
-pub returns-in_ok-add-clause-leads : goal.returns-in_ok-add-clause-leads
-returns-in_ok-add-clause-leads c = λ node known node_is known_is.
-    let spec = c.args.subject.now.spec.now in
-    let step : IsStepOf spec node.words known c.in-Some.after =
-    subst (λ (o : Option Stepped). MatchOption o (HasStep spec known → ⊥) (IsStepOf spec node.words known)) c.in-Some.is (c.in_ok-after.ensures node known node_is known_is) in
-    let to = c.in_ok-to.to in
-    lead_made spec c.add.new.self.table.keys c.add.new.self.nodes.items node to to c.args.origin.simulator known c.in-Some.after
-    (subst (λ (l : List Node). Contains l to) (sym c.in_ok-add.ensures.nodes) (Contains-push c.made.new.self.nodes.items to)) (below_itself to) step
-    (subst (λ (t : List Knowledge). IsMade spec t node c.args.origin.simulator c.in-Some.after to) (sym c.in_ok-add.ensures.table) (c.in_ok-to.ensures.made node node_is))
-
-pub returns-else-not-has_above-clause-leads : goal.returns-else-not-has_above-clause-leads
-returns-else-not-has_above-clause-leads c = λ node known node_is known_is.
-    let spec = c.args.subject.now.spec.now in
-    let step : IsStepOf spec node.words known c.in-Some.after =
-    subst (λ (o : Option Stepped). MatchOption o (HasStep spec known → ⊥) (IsStepOf spec node.words known)) c.in-Some.is (c.in_ok-after.ensures node known node_is known_is) in
-    let above = c.if-not-has_above.ensures refl in
-    lead_made spec c.made.new.self.table.keys c.made.new.self.nodes.items node c.in_ok-to.to above.0 c.args.origin.simulator known c.in-Some.after above.1 above.2 step (c.in_ok-to.ensures.made node node_is)
+    let from = c.args.from in
+    on_ok c.follow_to.result
+    (λ leads node local node_is local_is. leads node local node_is
+    (subst (IsLeadOf spec new.said.keys new.table.keys node.said from.simulator local) c.in-To.is
+    (lead_here spec new.said.keys new.table.keys c.args.self.now.nodes.items c.args.cursor from c.in_ok-lead.lead there.0 node local c.in_ok-lead.ensures.lead there.1 (said_grown old.said.keys new.said.keys from.said there.0.said on.said there.2) node_is (there_grown old.table.keys new.table.keys from.number local on.table local_is))))
+    c.follow_to.ensures.leads

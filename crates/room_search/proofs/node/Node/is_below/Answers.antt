@@ -14,9 +14,9 @@ loop-i-preserved c = below_more _ _ c.loop-i.invariant (
 
 pub returns : goal.returns
 returns c = λ yes. record {
-  words =
+  said =
       let same = words_stay c.as_slice.result.now c.as_slice-2.result.now c.if-ne.ensures in
-      ap (λ (n : Node). n.words) (sym c.above.view_is) ∙ sym c.as_slice-2.ensures.value ∙ sym same ∙ c.as_slice.ensures.value ∙ ap (λ (n : Node). n.words) c.self.view_is;
+      ap (λ (n : Node). n.said) (sym c.above.view_is) ∙ sym c.as_slice-2.ensures.value ∙ sym same ∙ c.as_slice.ensures.value ∙ ap (λ (n : Node). n.said) c.self.view_is;
   sets = λ i. elim (cases_lt i c.loop-i.i) [
     | inl below ↦ c.loop-i.invariant i below
     | inr past ↦ λ number there. absurd (none_past c.args.self.now i number (omega (arith, past, c.loop-i-test.false, c.width-i-end.ensures)) there)
