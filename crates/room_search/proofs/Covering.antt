@@ -17,7 +17,7 @@ use Rattle.room_core.specs.Rooms.{Configuration, IsLegal, IsOneInterleaving, IsS
 use Rattle.room_core.proofs.CallerLemmas.{shapes, under_crash_at_end, under_line_at_end}
 use Rattle.room_search.specs.Nodes.{AreComplete, CoverAllRooms, IsAfter, IsIn, MayHave, Node}
 use Rattle.room_search.specs.Saying.{DoSay, IsWordOf}
-use Rattle.room_search.specs.Steps.{AreWords, HasStep, known_after, words_after}
+use Rattle.room_search.specs.Steps.{HasStep, known_after, words_after}
 
 abbrev pub IsCovered : List Local → List Node → Configuration → Type 0
 IsCovered table nodes room = (node : Node) × Contains nodes node × IsIn table node room

@@ -1,7 +1,7 @@
 -- Words of which enough is the same end alike.
 use Rattle.std.proofs.Common.{◌≡◌, ℕ, zero, suc, ◌+◌, ◌-◌, ◌<◌, ◌≤◌, Bool, true, false, cond, eqb, List, [], ◌∷◌, length, map, get_or, min, Option, Some, None, refl, sym, ap, ◌∙◌, subst, arith, inl, inr}
 use Rattle.std.specs.Prelude.{not, position, unwrap_or, nat_le, slice_index, ◌&&◌}
-use Rattle.std.specs.List.{find, list_any, position_or_len, range_with_len}
+use Rattle.std.specs.List.{find, position_or_len, range_with_len}
 use Rattle.std.specs.Option.{option_map}
 use Rattle.std.proofs.lemmas.Bool.{and_parts, cases_Bool, cases_lt, eq-eqb, lt-ltb, le-ltb, true≢false}
 use Rattle.std.proofs.lemmas.List.FromFn.{get_or-map-range_with_len, length-map-range_with_len}
@@ -19,13 +19,12 @@ use Rattle.view_table.specs.Words.{word_at}
 use Rattle.view_table.specs.declared.place.Place.{Place}
 use Rattle.view_table.specs.declared.place.Place.TheVariants as places
 use Rattle.sim_memory.specs.Steps.{merged_of, row_of, step_in}
-use Rattle.sim_memory.proofs.CallerLemmas.{merged_at, merged_below, step_below}
+use Rattle.sim_memory.proofs.CallerLemmas.{merged_below, step_below}
 use Rattle.room_core.specs.Agreements.{asks, decided_in, first_with, is_clean, is_out, outs_at, row_at, shown, shown_by, shown_of, view_at, written}
 use Rattle.room_core.specs.Fields.{StepMap, levels_at}
 use Rattle.room_core.specs.Reading.{words_from}
 use Rattle.room_core.specs.Settled.{is_write}
 use Rattle.ws_history.specs.Reports.{is_spent, state_by}
-use Rattle.run_search.specs.declared.ended.Ended.{Ended}
 use Rattle.room_outcomes.specs.Ends.{end_of}
 use Rattle.room_search.specs.Ends.{DoEnd, SaysEnough, counts, end_by, ends_by, fields_by}
 use Rattle.room_search.specs.Saying.{DoSay, heard}

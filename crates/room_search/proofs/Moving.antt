@@ -1,11 +1,9 @@
 -- Moves go on.
-use Rattle.std.proofs.Common.{◌≡◌, ℕ, zero, suc, ◌<◌, Bool, true, false, cond, eqb, List, [], ◌∷◌, ◌++◌, length, Option, Some, None, refl, sym, ap, ◌∙◌, subst, arith, inl, inr}
-use Rattle.std.specs.Prelude.{slice_get}
+use Rattle.std.proofs.Common.{◌≡◌, ℕ, zero, suc, ◌<◌, Bool, true, cond, eqb, List, [], ◌∷◌, length, Some, refl, sym, ap, ◌∙◌, subst, arith, inl, inr}
 use Rattle.std.specs.Global.{Vec}
 use Rattle.std.specs.Map.{lookup}
-use Rattle.std.proofs.lemmas.Bool.{and_parts, cases_Bool, cases_lt, eqb-true}
-use Rattle.std.proofs.lemmas.List.{length_push}
-use Rattle.std.proofs.lemmas.Option.{none-some, same_Some, slice_get-get_or, slice_get_within}
+use Rattle.std.proofs.lemmas.Bool.{and_parts, cases_Bool, eqb-true}
+use Rattle.std.proofs.lemmas.Option.{none-some, same_Some, slice_get_within}
 use Rattle.indexmap.specs.IndexMap.{insert_entry}
 use Rattle.room_spec.specs.Rooms.{RoomSpec}
 use Rattle.room_search.specs.declared.local.Local.{Local}
@@ -14,7 +12,7 @@ use Rattle.room_search.specs.declared.moves.Lead.TheVariants.{Nothing, Lost, To}
 use Rattle.room_search.specs.declared.moves.Moves.{Moves}
 use Rattle.room_search.specs.declared.moves.Situation.{Situation}
 use Rattle.room_search.specs.contracts.moves.SituationPartialEq.TheImpl as tests
-use Rattle.room_search.specs.Moving.{AreEach, AreMoves, GoOn, IsKnownLead, IsLead, IsLeadOf, IsSaidAt, IsStepTo, IsWithinLead}
+use Rattle.room_search.specs.Moving.{AreEach, AreMoves, GoOn, IsKnownLead, IsLeadOf, IsSaidAt, IsStepTo, IsWithinLead}
 use Rattle.room_search.specs.declared.stepping.Next.{Next}
 use Rattle.room_search.specs.declared.stepping.Next.TheVariants as next
 use Rattle.room_search.specs.Nodes.{Grows, IsNumberOf}

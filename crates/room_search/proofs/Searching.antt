@@ -17,7 +17,7 @@ use Rattle.room_search.specs.declared.explored.Explored.{Explored}
 use Rattle.room_search.specs.declared.stepping.Next.{Next}
 use Rattle.room_search.specs.declared.stepping.Next.TheVariants.{Nothing, To}
 use Rattle.room_search.specs.declared.stepping.Stepped.{Stepped}
-use Rattle.room_search.specs.Nodes.{AreAlike, AreLocals, AreNodes, AreNumbers, AreSetsAfter, Grows, HaveRoom, IsAfter, IsBelow, IsIn, IsNode, IsNumberOf, Leads, LeadsAt, LeadsInside, MayBe, MayHave, Node, set_of}
+use Rattle.room_search.specs.Nodes.{AreAlike, AreNodes, AreNumbers, AreSetsAfter, Grows, HaveRoom, IsAfter, IsBelow, IsIn, IsNode, IsNumberOf, Leads, LeadsAt, LeadsInside, MayBe, MayHave, Node, set_of}
 use Rattle.room_search.specs.Saying.{DoSay, IsOwn}
 use Rattle.room_search.specs.declared.moves.Lead.{Lead}
 use Rattle.room_search.specs.declared.moves.Moves.{Moves}
@@ -26,7 +26,7 @@ use Rattle.room_search.specs.Moving.{AreMoves, GoOn, IsLead, IsLeadOf, IsSaidAt}
 use Rattle.room_search.specs.Searches.{GoesFurther, IsMade, IsSearched, StaysLost}
 use Rattle.room_search.specs.Steps.{AreWords, HasStep, IsNext, IsStepOf, known_after, local_of, words_after}
 use Rattle.room_search.proofs.Growing.{there_before, there_grown}
-use Rattle.room_search.proofs.Moving.{goes_not, goes_on, number_grown}
+use Rattle.room_search.proofs.Moving.{goes_not, goes_on}
 use Rattle.room_search.proofs.Sets.{at_index, grows_not, grows_on, grows_same, node_grown, numbers_grown}
 
 -- ---- tables that have grown

@@ -1,12 +1,10 @@
 -- What is said stays so while words are stored.
-use Rattle.std.proofs.Common.{◌≡◌, ◌≢◌, ℕ, ◌+◌, ◌-◌, ◌<◌, List, [], ◌∷◌, ◌++◌, length, get_or, set, sym, ap, ◌∙◌, subst, arith, inl, inr, ◌⊎◌}
+use Rattle.std.proofs.Common.{◌≡◌, ℕ, ◌+◌, ◌-◌, ◌<◌, List, [], ◌∷◌, ◌++◌, length, get_or, set, sym, ap, ◌∙◌, subst, arith, inl, inr, ◌⊎◌}
 use Rattle.std.proofs.lemmas.Bool.{cases_eq, cases_lt}
 use Rattle.std.proofs.lemmas.List.{get_or-set_same, get_or-set_other, get_or_append_left, get_or_past, get_or_push, length-set, length_push}
 use Rattle.std.proofs.lemmas.Option.{get_or_from_slice_get, slice_get-get_or}
 use Rattle.room_spec.specs.Rooms.{RoomSpec}
 use Rattle.room_spec.specs.Sizes.{sizes_in}
-use Rattle.view_table.specs.Places.{words_of}
-use Rattle.view_table.specs.declared.place.Place.{Place}
 use Rattle.view_table.proofs.CallerLemmas.{distinct}
 use Rattle.room_search.specs.declared.shown.Said.{Said}
 use Rattle.room_search.specs.Saying.{DoSay, IsAtPlaceOf, IsOwn, IsWordOf, writer_of}

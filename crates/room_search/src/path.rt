@@ -199,17 +199,18 @@ impl Explored {
         requires said { AreWords subject.now.spec.now node.now.said }
         requires simulator { i < subject.now.spec.now.simulators }
     {
+        let most = count_in(node, i);
         let mut number = from;
         for count in 0..MOST_STEPS {
             if number == to {
                 return Ok(Some(count));
             }
+            if usize::from(count) >= most {
+                return Ok(None); // one of the local states has come again
+            }
             let Some(next) = self.alone(subject, node, i, number)? else {
                 return Ok(None);
             };
-            if next == from {
-                return Ok(None);
-            }
             number = next;
         }
         Ok(None)
@@ -237,6 +238,15 @@ impl Explored {
             return Ok(None);
         }
         Ok(number_of(&self.moves.table, &local_of(after)))
+    }
+}
+
+/// How many local states simulator `i` may have in a node.
+fn count_in(node: &Node, i: usize) -> usize {
+    if i < node.width() {
+        node.set(i).len()
+    } else {
+        0
     }
 }
 

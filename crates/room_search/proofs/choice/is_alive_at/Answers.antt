@@ -1,7 +1,6 @@
 use Rattle.std.proofs.Common.{◌≡◌, sym, subst, ◌∙◌}
 use Rattle.std.proofs.lemmas.Option.{none-some, same_Some}
 use Rattle.room_core.specs.Calls.{configuration_of}
-use Rattle.room_search.specs.declared.local.Local.{Local}
 use Rattle.room_search.specs.Taking.{MustHaveCrashed}
 use Rattle.room_search.proofs.choice.is_alive_at.Goals as goal
 

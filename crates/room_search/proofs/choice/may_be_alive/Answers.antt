@@ -1,4 +1,4 @@
-use Rattle.std.proofs.Common.{◌≡◌, List, ℕ, inl, inr, sym, subst, ◌∙◌}
+use Rattle.std.proofs.Common.{List, ℕ, inl, inr, sym, subst, ◌∙◌}
 use Rattle.room_search.specs.Saying.{DoSay}
 use Rattle.room_search.proofs.choice.may_be_alive.Goals as goal
 

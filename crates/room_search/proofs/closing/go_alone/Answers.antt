@@ -1,4 +1,4 @@
-use Rattle.std.proofs.Common.{◌<◌, length, sym, subst}
+use Rattle.std.proofs.Common.{subst}
 use Rattle.room_search.specs.Moving.{IsWithinLead}
 use Rattle.room_search.proofs.Sets.{numbers_grown, numbers_put, place_of}
 use Rattle.room_search.proofs.closing.go_alone.Goals as goal

@@ -1,11 +1,9 @@
-use Rattle.std.proofs.Common.{◌≡◌, ◌<◌, ℕ, List, length, get_or, sym, ap, ◌∙◌, subst, arith}
+use Rattle.std.proofs.Common.{◌≡◌, ℕ, List, sym, ap, ◌∙◌, arith}
 use Rattle.std.proofs.lemmas.Bool.{true≢false}
 use Rattle.room_spec.specs.Sizes.{sizes_in}
-use Rattle.view_table.specs.Places.{index_of, words_of}
-use Rattle.view_table.specs.declared.place.Place.{Place}
+use Rattle.view_table.specs.Places.{index_of}
 use Rattle.view_table.proofs.CallerLemmas.{distinct, within}
 use Rattle.room_search.specs.Ends.{counts}
-use Rattle.room_search.specs.Saying.{heard}
 use Rattle.room_search.proofs.ends.says_enough.Goals as goal
 
 pub returns : goal.returns

@@ -1,4 +1,4 @@
-use Rattle.std.proofs.Common.{◌≤◌, ℕ, length, sym, subst, ap, ◌∙◌, arith}
+use Rattle.std.proofs.Common.{◌≤◌, length, sym, subst, ap, ◌∙◌, arith}
 use Rattle.room_spec.specs.Sizes.{Sizes, memory_words, sizes_in}
 use Rattle.sim_memory.specs.Steps.{step_in}
 use Rattle.room_search.proofs.WordsRead.{memory_fits, memory_read}

@@ -1,4 +1,4 @@
-use Rattle.std.proofs.Common.{◌<◌, ap, ◌∙◌, arith, rules}
+use Rattle.std.proofs.Common.{◌<◌, arith, rules}
 use Rattle.room_spec.specs.Sizes.{sizes_in}
 use Rattle.room_spec.specs.Shapes.{sizes_of}
 use Rattle.room_spec.proofs.CallerLemmas.{are_memory_words}

@@ -1,4 +1,4 @@
-use Rattle.std.proofs.Common.{◌≡◌, ℕ, not, is_some, sym, ap, ◌∙◌, arith}
+use Rattle.std.proofs.Common.{ℕ, not, is_some, sym, ap, ◌∙◌, arith}
 use Rattle.view_table.specs.declared.place.Place.TheVariants.{Levels}
 use Rattle.simulator.specs.Moves.{chosen_in, index_in}
 use Rattle.room_search.proofs.Stored.{word_said}

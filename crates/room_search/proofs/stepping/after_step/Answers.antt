@@ -1,4 +1,4 @@
-use Rattle.std.proofs.Common.{ap, ◌∙◌}
+use Rattle.std.proofs.Common.{◌∙◌}
 use Rattle.room_search.proofs.Steps.{step_of}
 use Rattle.room_search.proofs.stepping.after_step.Goals as goal
 

@@ -1,6 +1,5 @@
-use Rattle.std.proofs.Common.{◌≡◌, true, refl, sym, subst, ◌∙◌}
+use Rattle.std.proofs.Common.{refl, sym, subst, ◌∙◌}
 use Rattle.std.proofs.lemmas.Bool.{true≢false}
-use Rattle.room_search.specs.declared.moves.Moves.{Moves}
 use Rattle.room_search.specs.Moving.{GoOn, IsLeadOf, IsWithinLead}
 use Rattle.room_search.proofs.Growing.{there_grown}
 use Rattle.room_search.proofs.Moving.{said_grown, said_within}

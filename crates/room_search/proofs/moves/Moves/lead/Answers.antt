@@ -1,12 +1,7 @@
-use Rattle.std.proofs.Common.{◌≡◌, List, refl, sym, ap, ◌∙◌, subst, arith}
-use Rattle.std.specs.Prelude.{slice_get}
-use Rattle.room_search.specs.declared.local.Local.{Local}
-use Rattle.room_search.specs.declared.stepping.Next.{Next}
-use Rattle.room_search.specs.declared.stepping.Next.TheVariants.{Nothing, Lost, To}
-use Rattle.room_search.specs.Moving.{AreEach, IsKnownLead, IsLead, IsSaidAt}
-use Rattle.room_search.specs.Steps.{IsNext, IsWithinNext}
+use Rattle.std.proofs.Common.{sym, subst, arith}
+use Rattle.room_search.specs.Moving.{AreEach, IsKnownLead, IsLead}
 use Rattle.room_search.proofs.Growing.{there_before}
-use Rattle.room_search.proofs.Moving.{each_inserted, goes_not, next_within, said_at, said_before}
+use Rattle.room_search.proofs.Moving.{each_inserted, next_within, said_at, said_before}
 use Rattle.room_search.proofs.Sets.{longer, place_there}
 use Rattle.room_search.proofs.moves.Moves.lead.Goals as goal
 

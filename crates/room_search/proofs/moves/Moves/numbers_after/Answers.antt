@@ -1,4 +1,4 @@
-use Rattle.room_search.proofs.Moving.{goes_on, number_grown, number_within, said_within}
+use Rattle.room_search.proofs.Moving.{number_grown, number_within, said_within}
 use Rattle.room_search.specs.Steps.{local_of}
 use Rattle.room_search.proofs.moves.Moves.numbers_after.Goals as goal
 

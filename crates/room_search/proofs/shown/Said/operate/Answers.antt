@@ -1,4 +1,4 @@
-use Rattle.std.proofs.Common.{◌≡◌, ◌+◌, ◌-◌, ◌%◌, ◌^◌, ℕ, sym, subst}
+use Rattle.std.proofs.Common.{◌≡◌, ◌+◌, ◌-◌, ◌%◌, ◌^◌, sym, subst}
 use Rattle.std.specs.Prelude.{slice_index}
 use Rattle.simulator.specs.declared.operation.Move.{Move}
 use Rattle.simulator.specs.Moves.{words_after}

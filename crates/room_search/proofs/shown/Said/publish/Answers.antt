@@ -1,4 +1,4 @@
-use Rattle.std.proofs.Common.{refl, sym, ◌∙◌, arith}
+use Rattle.std.proofs.Common.{refl, sym, ◌∙◌}
 use Rattle.room_search.proofs.Stored.{at_place, no_more}
 use Rattle.room_search.proofs.shown.Said.publish.Goals as goal
 

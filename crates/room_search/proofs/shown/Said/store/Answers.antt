@@ -1,4 +1,4 @@
-use Rattle.std.proofs.Common.{◌≡◌, ◌+◌, ◌<◌, ℕ, length, refl, sym, inl, inr, arith}
+use Rattle.std.proofs.Common.{refl, inl, inr, arith}
 use Rattle.room_search.proofs.Stored.{others_stay, stored_both}
 use Rattle.room_search.proofs.shown.Said.store.Goals as goal
 

@@ -2,7 +2,6 @@ use Rattle.std.proofs.Common.{◌≡◌, ◌+◌, ℕ, List, length, ap, subst, 
 use Rattle.std.specs.Prelude.{IfSome, MatchOption, Option}
 use Rattle.room_core.specs.Calls.{configuration_of}
 use Rattle.room_search.specs.declared.choice.Choice.{Choice}
-use Rattle.room_search.specs.declared.local.Local.{Local}
 use Rattle.room_search.specs.Taking.{AreFoundFrom, IsChosen, IsNoChoice}
 use Rattle.room_search.proofs.Alike.{before_alike, before_first, before_more, before_none}
 use Rattle.room_search.proofs.Noting.{from_all, from_none}

@@ -1,4 +1,4 @@
-use Rattle.std.proofs.Common.{◌≡◌, List, ℕ, subst}
+use Rattle.std.proofs.Common.{List, ℕ, subst}
 use Rattle.std.specs.Prelude.{IfSome, Option}
 use Rattle.run_search.specs.Outcomes.{Ends}
 use Rattle.room_search.specs.Ends.{DoEnd}
