@@ -25,7 +25,7 @@ use Rattle.room_search.specs.Ends.{DoEnd, ends_by}
 use Rattle.room_search.specs.Nodes.{MayBe, Node, set_of}
 use Rattle.room_search.specs.Reaching.{IsFound, IsReachedFrom, settled_from}
 use Rattle.room_search.specs.Saying.{DoSay}
-use Rattle.room_search.specs.Taking.{AreFoundFrom, HaveCrashed, Includes, IsChosen, IsNoChoice, IsSettledFrom, IsTaken, MayEnd, MayStand, MustHaveCrashed, crashed_from, one_if}
+use Rattle.room_search.specs.Taking.{AreFoundFrom, HaveCrashed, Includes, IsChosen, IsNoChoice, IsSettledFrom, IsTaken, MayEnd, MayBeIn, MustHaveCrashed, crashed_from, one_if}
 use Rattle.room_search.proofs.Going.{settled_spec}
 
 -- ---- a room that was run
@@ -68,11 +68,11 @@ taken_grown spec start crashes table old new node grown taken = from_grown spec 
 -- the outcomes of the rooms in which the next simulator is in this local state
 abbrev pub AreFoundAt : RoomSpec → Configuration → List Local → List Reached → Node → ℕ → ℕ → ℕ → List ℕ → ℕ → Type 0
 AreFoundAt spec start table outcomes node first count crashes said number =
-    (local : Local) → slice_get table number ≡ Some local → (crashed : ℕ → Bool) (words : List ℕ) → crashed_from crashed first (suc count) ≤ crashes → MayStand spec start node first local (crashed first) words → DoSay said words
+    (local : Local) → slice_get table number ≡ Some local → (crashed : ℕ → Bool) (words : List ℕ) → crashed_from crashed first (suc count) ≤ crashes → MayBeIn spec start node first local (crashed first) words → DoSay said words
     → ((i : ℕ) → first + 1 ≤ i → i < first + 1 + count → MayEnd spec start table node i (crashed i) words) → IsFound outcomes (ends_by spec words)
 
 pub at_grown : (spec : RoomSpec) (start : Configuration) (table : List Local) (old new : List Reached) (node : Node) (first count crashes : ℕ) (said : List ℕ) (number : ℕ) → Includes old new → AreFoundAt spec start table old node first count crashes said number → AreFoundAt spec start table new node first count crashes said number
-at_grown spec start table old new node first count crashes said number grown found local is crashed words few stand says may = found_grown old new (ends_by spec words) grown (found local is crashed words few stand says may)
+at_grown spec start table old new node first count crashes said number grown found local is crashed words few may_be says may = found_grown old new (ends_by spec words) grown (found local is crashed words few may_be says may)
 
 pub crashed_more : (crashed : ℕ → Bool) (first count : ℕ) → crashed_from crashed first (suc count) ≡ one_if (crashed first) + crashed_from crashed (first + 1) count
 crashed_more crashed first count = by (crashed first) refl
@@ -81,34 +81,34 @@ crashed_more crashed first count = by (crashed first) refl
     by true is = ap (λ (b : Bool). length (cond b (first ∷ filter crashed (range_with_len (first + 1) count)) (filter crashed (range_with_len (first + 1) count)))) is ∙ omega arith
     by false is = ap (λ (b : Bool). length (cond b (first ∷ filter crashed (range_with_len (first + 1) count)) (filter crashed (range_with_len (first + 1) count)))) is ∙ omega arith
 
-pub must_crash : (spec : RoomSpec) (start : Configuration) (node : Node) (i : ℕ) (local : Local) → MustHaveCrashed spec start node i local → (crashed : Bool) (words : List ℕ) → MayStand spec start node i local crashed words → 1 ≤ one_if crashed
-must_crash spec start node i local why true words stand = omega arith
-must_crash spec start node i local why false words stand = elim why [
-  | inl had ↦ absurd (true≢false (sym (stand.had had)))
-  | inr never ↦ absurd (never words stand.says (stand.rests refl))
+pub must_crash : (spec : RoomSpec) (start : Configuration) (node : Node) (i : ℕ) (local : Local) → MustHaveCrashed spec start node i local → (crashed : Bool) (words : List ℕ) → MayBeIn spec start node i local crashed words → 1 ≤ one_if crashed
+must_crash spec start node i local why true words may_be = omega arith
+must_crash spec start node i local why false words may_be = elim why [
+  | inl had ↦ absurd (true≢false (sym (may_be.had had)))
+  | inr never ↦ absurd (never words may_be.says (may_be.rests refl))
 ]
 
 pub left_chosen : (spec : RoomSpec) (start : Configuration) (node : Node) (i : ℕ) (local : Local) (rests : Bool) (old new : ℕ) → (rests ≡ false → MustHaveCrashed spec start node i local) → old ≤ new + 1 → (rests ≡ true → new ≡ old)
-    → (crashed : Bool) (words : List ℕ) → MayStand spec start node i local crashed words → old ≤ new + one_if crashed
-left_chosen spec start node i local true old new why few same crashed words stand = let is = same refl in omega (arith, is)
-left_chosen spec start node i local false old new why few same crashed words stand = let must = must_crash spec start node i local (why refl) crashed words stand in omega (arith, few, must)
+    → (crashed : Bool) (words : List ℕ) → MayBeIn spec start node i local crashed words → old ≤ new + one_if crashed
+left_chosen spec start node i local true old new why few same crashed words may_be = let is = same refl in omega (arith, is)
+left_chosen spec start node i local false old new why few same crashed words may_be = let must = must_crash spec start node i local (why refl) crashed words may_be in omega (arith, few, must)
 
 -- it is there, and the others come after it
 pub at_chosen : (spec : RoomSpec) (start : Configuration) (table : List Local) (outcomes : List Reached) (node : Node) (number count : ℕ) (choice next : Choice) → ((local : Local) → slice_get table number ≡ Some local → IsChosen spec start node local choice next)
     → AreFoundFrom spec start table outcomes node (length choice.numbers.items + 1) count next.left next.said.items → AreFoundAt spec start table outcomes node (length choice.numbers.items) count choice.left choice.said.items number
-at_chosen spec start table outcomes node number count choice next chosen found local is crashed words few stand says may =
+at_chosen spec start table outcomes node number count choice next chosen found local is crashed words few may_be says may =
     let first = length choice.numbers.items in
     let here = chosen local is in
-    let left = here.left (crashed first) words stand in
+    let left = here.left (crashed first) words may_be in
     let more = crashed_more crashed first count in
-    found crashed words (omega (arith, few, more, left)) stand.says (here.says words says stand.own) may
+    found crashed words (omega (arith, few, more, left)) may_be.says (here.says words says may_be.own) may
 
 -- it can't be there
 pub at_none : (spec : RoomSpec) (start : Configuration) (table : List Local) (outcomes : List Reached) (node : Node) (number count : ℕ) (choice : Choice) → ((local : Local) → slice_get table number ≡ Some local → IsNoChoice spec start node local choice)
     → AreFoundAt spec start table outcomes node (length choice.numbers.items) count choice.left choice.said.items number
-at_none spec start table outcomes node number count choice none local is crashed words few stand says may =
+at_none spec start table outcomes node number count choice none local is crashed words few may_be says may =
     let first = length choice.numbers.items in
-    let over = none local is (crashed first) words stand in
+    let over = none local is (crashed first) words may_be in
     let more = crashed_more crashed first count in
     absurd (omega (arith, few, more, over))
 
@@ -132,7 +132,7 @@ from_all spec start table outcomes node first (suc rest) crashes said some each 
 pub from_none : (spec : RoomSpec) (start : Configuration) (table : List Local) (outcomes : List Reached) (node : Node) (first crashes : ℕ) (said : List ℕ) → ((words : List ℕ) → DoSay said words → IsFound outcomes (ends_by spec words)) → AreFoundFrom spec start table outcomes node first 0 crashes said
 from_none spec start table outcomes node first crashes said found crashed words few says more may = found words more
 
--- what is said tells how the processes end, and that is found
+-- what is said says how the processes end, and that is found
 pub found_said : (spec : RoomSpec) (outcomes : List Reached) (said : List ℕ) (ends : List Ended) → DoEnd spec said ends → IsFound outcomes ends → (words : List ℕ) → DoSay said words → IsFound outcomes (ends_by spec words)
 found_said spec outcomes said ends end found words says = (found.0, found.1, end words says ∙ found.2)
 
@@ -157,16 +157,16 @@ pub have_crashed_more : (spec : RoomSpec) (start : Configuration) (table : List 
 have_crashed_more spec start table node i least one is_alive must none few before crashed words says may =
     let was = before crashed words says (λ k below. may k (omega (arith, below))) in
     let here : MayEnd spec start table node i (crashed i) words = may i (omega arith) in
-    let stand : MayStand spec start node i here.local (crashed i) words = record { says = says; own = here.own; rests = here.rests; had = here.had } in
+    let may_be : MayBeIn spec start node i here.local (crashed i) words = record { says = says; own = here.own; rests = here.rests; had = here.had } in
     let last = crashed_last crashed 0 i in
     let place : one_if (crashed (0 + i)) ≡ one_if (crashed i) = ap (λ (k : ℕ). one_if (crashed k)) (let same : 0 + i ≡ i = omega arith in same) in
     let next : crashed_from crashed 0 (suc i) ≡ crashed_from crashed 0 (i + 1) = ap (crashed_from crashed 0) (let same : suc i ≡ i + 1 = omega arith in same) in
-    let charged : one ≤ one_if (crashed i) = by is_alive refl here.local here.may stand in
+    let charged : one ≤ one_if (crashed i) = by is_alive refl here.local here.may may_be in
     omega (arith, was, last, place, next, charged)
   where
-    by : (b : Bool) → is_alive ≡ b → (local : Local) → MayBe table node i local → MayStand spec start node i local (crashed i) words → one ≤ one_if (crashed i)
-    by true is local there stand = let zero_it = none is in omega (arith, zero_it)
-    by false is local there stand = let charge = must_crash spec start node i local (must is local there) (crashed i) words stand in omega (arith, charge, few)
+    by : (b : Bool) → is_alive ≡ b → (local : Local) → MayBe table node i local → MayBeIn spec start node i local (crashed i) words → one ≤ one_if (crashed i)
+    by true is local there may_be = let zero_it = none is in omega (arith, zero_it)
+    by false is local there may_be = let charge = must_crash spec start node i local (must is local there) (crashed i) words may_be in omega (arith, charge, few)
 
 -- too many have crashed
 pub never_taken : (spec : RoomSpec) (start : Configuration) (crashes : ℕ) (table : List Local) (outcomes : List Reached) (node : Node) (least : ℕ) → HaveCrashed spec start table node spec.simulators least → crashes < least → IsTaken spec start crashes table outcomes node

@@ -48,7 +48,7 @@ abbrev pub IsTaken : RoomSpec → Configuration → ℕ → List Local → List 
 IsTaken spec start crashes table outcomes node = AreFoundFrom spec start table outcomes node 0 spec.simulators crashes node.said
 
 -- Some room of the node has simulator i in this local state, with words of which that is said; it has crashed, or can go no further.
-pub record MayStand (spec : RoomSpec) (start : Configuration) (node : Node) (i : ℕ) (local : Local) (crashed : Bool) (words : List ℕ) : Type 0 where
+pub record MayBeIn (spec : RoomSpec) (start : Configuration) (node : Node) (i : ℕ) (local : Local) (crashed : Bool) (words : List ℕ) : Type 0 where
   pub says : DoSay node.said words
   pub own : DoSay local.own.items words
   pub rests : crashed ≡ false → Rests spec words (mind_of local.known).goals
@@ -66,11 +66,11 @@ HaveCrashed spec start table node first least =
 -- the simulator after those that are chosen is in this local state: that is said as well, and one fewer may crash if it has crashed
 pub record IsChosen (spec : RoomSpec) (start : Configuration) (node : Node) (local : Local) (choice next : Choice) : Type 0 where
   pub says : (words : List ℕ) → DoSay choice.said.items words → DoSay local.own.items words → DoSay next.said.items words
-  pub left : (crashed : Bool) (words : List ℕ) → MayStand spec start node (length choice.numbers.items) local crashed words → choice.left ≤ next.left + one_if crashed
+  pub left : (crashed : Bool) (words : List ℕ) → MayBeIn spec start node (length choice.numbers.items) local crashed words → choice.left ≤ next.left + one_if crashed
 
 -- it isn't, since it has crashed if it is, and no more may
 abbrev pub IsNoChoice : RoomSpec → Configuration → Node → Local → Choice → Type 0
-IsNoChoice spec start node local choice = (crashed : Bool) (words : List ℕ) → MayStand spec start node (length choice.numbers.items) local crashed words → choice.left < one_if crashed
+IsNoChoice spec start node local choice = (crashed : Bool) (words : List ℕ) → MayBeIn spec start node (length choice.numbers.items) local crashed words → choice.left < one_if crashed
 
 -- all of some list are in another
 abbrev pub Includes : {A : Type 0} → List A → List A → Type 0

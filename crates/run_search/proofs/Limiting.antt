@@ -18,7 +18,7 @@ use Rattle.room_spec.specs.Rooms.{RoomSpec, processes}
 use Rattle.transcript.proofs.CallerLemmas.{slice_get-append, slice_get-push}
 use Rattle.run_search.specs.declared.explored.Entry.{Entry}
 use Rattle.run_search.specs.declared.local_state.LocalState.{LocalState}
-use Rattle.run_search.specs.Limits.{AreApart, AreListed, AreTooMany, CoversMore, HasMarks, IsAfter, IsListed, IsNodeListed, IsNotBelow, LacksAfter, Rows, entries_at, no_entry}
+use Rattle.run_search.specs.Limits.{AreApart, AreListed, AreTooMany, CoversMore, HasMarks, IsAfter, IsListed, IsNodeListed, IsNotBelow, IsWithoutAfter, Rows, entries_at, no_entry}
 use Rattle.run_search.specs.Marks.{AreMarksOf}
 use Rattle.run_search.specs.Nodes.{AreGathered, Covers, IsNext, IsWhole, Node, set_of}
 use Rattle.run_search.specs.States.{blank}
@@ -241,11 +241,11 @@ in_after node p new q local old own other there = elim (cases_eq q p) [
   | inr apart ↦ inr (apart, subst (λ (l : List LocalState). Contains l local) (other apart) there)
 ]
 
--- a node that lacks something of that lacks it of the node that the write leads to
-pub lacks_below : (spec : RoomSpec) (node to other : Node) (p : ℕ) (new : LocalState) (row : List (Option ℕ)) → IsNext spec node p new to → row ≡ set node.row p new.last → LacksAfter spec node p new row other → IsNotBelow to other
-lacks_below spec node to other p new row next row_is (inl rows) = inl (λ same. rows (same ∙ next.row ∙ sym row_is))
-lacks_below spec node to other p new row next row_is (inr (inl widths)) = inr (inl (λ same. widths (sym same ∙ next.width)))
-lacks_below spec node to other p new row next row_is (inr (inr more)) =
+-- a node that is without something of that is without it of the node that the write leads to
+pub without_below : (spec : RoomSpec) (node to other : Node) (p : ℕ) (new : LocalState) (row : List (Option ℕ)) → IsNext spec node p new to → row ≡ set node.row p new.last → IsWithoutAfter spec node p new row other → IsNotBelow to other
+without_below spec node to other p new row next row_is (inl rows) = inl (λ same. rows (same ∙ next.row ∙ sym row_is))
+without_below spec node to other p new row next row_is (inr (inl widths)) = inr (inl (λ same. widths (sym same ∙ next.width)))
+without_below spec node to other p new row next row_is (inr (inr more)) =
     let q = more.0 in
     let within = more.2 in
     let there : IsAfter node p new q more.1 → Contains (set_of to q) more.1 = λ is. elim is [

@@ -88,9 +88,9 @@ pub record HasAfter (spec : RoomSpec) (node : Node) (p : ℕ) (new : LocalState)
   pub row_is : above.row ≡ row
   pub all : (q : ℕ) (local : LocalState) → q < processes spec → IsAfter node p new q local → Contains (set_of above q) local
 
--- it has another row, or sets for another number of processes, or lacks one of these local states
-abbrev pub LacksAfter : RoomSpec → Node → ℕ → LocalState → List (Option ℕ) → Node → Type 0
-LacksAfter spec node p new row above =
+-- it has another row, or sets for another number of processes, or not one of these local states
+abbrev pub IsWithoutAfter : RoomSpec → Node → ℕ → LocalState → List (Option ℕ) → Node → Type 0
+IsWithoutAfter spec node p new row above =
     (above.row ≡ row → ⊥)
     ⊎ ((length above.sets ≡ processes spec → ⊥) ⊎ ((q : ℕ) × (local : LocalState) × (q < processes spec) × IsAfter node p new q local × (Contains (set_of above q) local → ⊥)))
 

@@ -2,7 +2,7 @@
 ghost use Rattle.std.specs.Prelude.{◌≡◌, ◌<◌, ◌≤◌, ◌⊎◌, ◌∷◌, ◌++◌, [], ℕ, List, Option, true, false, Some, IfErr, IfOk, OnOk, length, slice_get};
 ghost use Rattle.std.specs.List.{Contains};
 ghost use Rattle.room_spec.specs.Rooms.{processes};
-ghost use Rattle.run_search.specs.Limits.{AreListed, AreMarksAfter, AreMarksIn, AreTooMany, HasAfter, HasMarks, IsListed, IsNotBelow, IsSearched, LacksAfter};
+ghost use Rattle.run_search.specs.Limits.{AreListed, AreMarksAfter, AreMarksIn, AreTooMany, HasAfter, HasMarks, IsListed, IsNotBelow, IsSearched, IsWithoutAfter};
 ghost use Rattle.run_search.specs.declared.fault.SearchFault.TheVariants.{TooManyNodes};
 ghost use Rattle.run_search.specs.Nodes.{AreGathered, CoverAllReachable, HasEdge, HasEdges, HasEdgesBelow, IsBelow, IsBelowLater, Node as NodeValue, NodesGrow, set_of};
 ghost use Rattle.run_search.specs.declared.explored.Entry.{Entry as EntryValue};
@@ -10,18 +10,21 @@ ghost use Rattle.run_search.specs.declared.local_state.LocalState.{LocalState as
 
 use crate::fault::SearchFault;
 use crate::mark::has_other;
-use crate::node::{After, Node, Place, copied, has_after, marks_after};
+use crate::node::{After, Node, Place, Written, copied, has_after, marks_after};
 use crate::progress::Progress;
+use crate::sets::Sets;
 use indexmap::IndexMap;
 use protocol_lang::View;
 use room_spec::Spec;
 use std::alloc::{AllocError, Global};
+use std::rc::Rc;
 
 /// Nodes, each with the write by which it was reached first, and an entry for each under its row.
 #[derive(Drop)]
 pub struct Explored {
     pub nodes: Vec<Node>,
     by_row: IndexMap<View, Vec<Entry>>,
+    sets: Sets,
 }
 
 /// A node in the list of those with the same row: its index, and the marks of its local states.
@@ -65,10 +68,15 @@ pub fn explore<P: Progress>(
 pub fn open(alloc: Global, spec: &Spec) -> Result<Explored, AllocError>
     ensures { IfOk result (IsSearched spec.now) }
 {
-    let first = Node::first(alloc, spec)?;
+    let mut sets = Sets::new(alloc);
+    let first = Node::first(spec, &mut sets)?;
     let nodes = Vec::new(alloc);
     let by_row = IndexMap::new(alloc);
-    let mut explored = Explored { nodes, by_row };
+    let mut explored = Explored {
+        nodes,
+        by_row,
+        sets,
+    };
     explored.add(alloc, first)?;
     Ok(explored)
 }
@@ -136,18 +144,49 @@ impl Explored {
             return Ok(());
         };
         let row = node.row_after(place.process, new.last);
-        let after = After {
-            node,
-            process: place.process,
-            new,
-            row: &row,
-        };
-        if self.has_after(spec, &after) {
+        let process = place.process;
+        if self.has_after(
+            spec,
+            &After {
+                node: &self.nodes[place.node as usize],
+                process,
+                new,
+                row: &row,
+            },
+        ) {
             return Ok(());
         }
-        let to = node.edge(alloc, spec, place, new)?;
+        let row = self.shared_row(alloc, &row)?;
+        let written = Written { new, row };
+        let from = &self.nodes[place.node as usize];
+        let to = from.edge(spec, place, written, &mut self.sets)?;
         self.add(alloc, to)?;
         Ok(())
+    }
+
+    /// These last writes: those of a node that has the same, if there is one, to share.
+    ///
+    /// # Errors
+    ///
+    /// An allocation that fails.
+    fn shared_row(&self, alloc: Global, row: &View) -> Result<Rc<View>, AllocError>
+        ensures { IfOk result (λ shared. shared.value.items ≡ row.now.items) }
+    {
+        if let Some(node) = self.node_with(row) {
+            if node.row().as_slice() == row.as_slice() {
+                let shared = node.shared_row()?;
+                return Ok(shared);
+            }
+        }
+        let shared = Rc::new(alloc, copied(row))?;
+        Ok(shared)
+    }
+
+    /// The first node with these last writes.
+    fn node_with(&self, row: &View) -> Option<&Node> {
+        let entries = self.by_row.get(row)?;
+        let entry = entries.first()?;
+        self.nodes.get(entry.index)
     }
 
     /// Whether one of the nodes has what a node has after a write. Then it has all that the node has that the write leads to, since it is closed.
@@ -156,8 +195,8 @@ impl Explored {
         requires width { length after.now.node.now.sets ≡ processes spec.now }
         ensures has { result ≡ true → (index : ℕ) × (above : NodeValue) × (slice_get self.now.nodes.items index ≡ Some above) ×
             HasAfter spec.now after.now.node.now after.now.process after.now.new after.now.row.now.items above }
-        ensures lacks { result ≡ false → (index : ℕ) (other : NodeValue) → slice_get self.now.nodes.items index ≡ Some other →
-            LacksAfter spec.now after.now.node.now after.now.process after.now.new after.now.row.now.items other }
+        ensures without { result ≡ false → (index : ℕ) (other : NodeValue) → slice_get self.now.nodes.items index ≡ Some other →
+            IsWithoutAfter spec.now after.now.node.now after.now.process after.now.new after.now.row.now.items other }
     {
         let Some(entries) = self.by_row.get(after.row) else {
             return false;
@@ -171,13 +210,13 @@ impl Explored {
         false
     }
 
-    /// Whether the node of this entry has that. These are the marks of what the node has after the write: if the other node lacks one of them, it isn't looked at.
+    /// Whether the node of this entry has that. These are the marks of what the node has after the write: if the other node does not have one of them, it isn't looked at.
     fn has_after_at(&self, spec: &Spec, after: &After<'_>, marks: u64, entry: Entry) -> bool
         requires width { length after.now.node.now.sets ≡ processes spec.now }
         requires marks { AreMarksAfter spec.now after.now.node.now after.now.process after.now.new marks }
         ensures has { result ≡ true → (above : NodeValue) × (slice_get self.now.nodes.items entry.index ≡ Some above) × HasAfter spec.now after.now.node.now after.now.process after.now.new after.now.row.now.items above }
-        ensures lacks { result ≡ false → (other : NodeValue) → slice_get self.now.nodes.items entry.index ≡ Some other → HasMarks other entry.marks →
-            LacksAfter spec.now after.now.node.now after.now.process after.now.new after.now.row.now.items other }
+        ensures without { result ≡ false → (other : NodeValue) → slice_get self.now.nodes.items entry.index ≡ Some other → HasMarks other entry.marks →
+            IsWithoutAfter spec.now after.now.node.now after.now.process after.now.new after.now.row.now.items other }
     {
         if has_other(marks, entry.marks) {
             return false;

@@ -1,5 +1,5 @@
 //! Nodes: for each process a set of local states that it may be in while memory stays as it is.
-ghost use Rattle.run_search.specs.Limits.{AreMarksAfter, AreMarksIn, HasAfter, HasMarks, IsNotBelow, LacksAfter};
+ghost use Rattle.run_search.specs.Limits.{AreMarksAfter, AreMarksIn, HasAfter, HasMarks, IsNotBelow, IsWithoutAfter};
 ghost use Rattle.std.specs.Prelude.{◌≡◌, ◌<◌, ◌⊎◌, ◌∷◌, ℕ, [], List, Option, true, false, IfOk, IfSome, MatchBool, MatchOption, OnOk, Some, length, slice_get, slice_set};
 ghost use Rattle.std.specs.List.{Contains};
 ghost use Rattle.room_spec.specs.Rooms.{RoomSpec, processes};
@@ -8,20 +8,19 @@ ghost use Rattle.run_search.specs.declared.local_state.LocalState.{LocalState as
 
 use crate::local_state::{Due, LocalState, Origin, State};
 use crate::mark::with_marks;
+use crate::sets::{LocalSet, Sets};
 use crate::step::{moved, opening, row_of};
 use protocol_lang::View;
 use room_spec::Spec;
 use std::alloc::{AllocError, Global};
 use std::marker::Model;
-
-/// Local states of one process, each once.
-pub type LocalSet = Vec<LocalState>;
+use std::rc::Rc;
 
 /// States of runs with the same memory: each process is in one of its local states, whatever the others do.
 #[derive(Drop)]
 pub struct Node {
     /// The last write of each process.
-    row: View,
+    row: Rc<View>,
     /// The local states of each process.
     sets: Vec<LocalSet>,
     origin: Origin,
@@ -43,6 +42,13 @@ pub struct After<'a> {
     pub row: &'a View,
 }
 
+/// What a write of a process leaves: its local state then, and the last writes then.
+#[derive(Drop)]
+pub struct Written {
+    pub new: LocalState,
+    pub row: Rc<View>,
+}
+
 /// Where a local state is: the index of its node, the process, and its index among the local states of the process there.
 #[derive(Clone, Copy)]
 pub struct Place {
@@ -57,7 +63,7 @@ impl Model for Node {
 
     ghost Value = { NodeValue };
 
-    ghost view = { λ node. record { row = node.row.items; sets = map (λ set. set.items) node.sets.items; origin = node.origin } };
+    ghost view = { λ node. record { row = node.row.value.items; sets = map (λ set. set.value.items) node.sets.items; origin = node.origin } };
 }
 
 impl Node {
@@ -66,29 +72,47 @@ impl Node {
     /// # Errors
     ///
     /// An allocation that fails.
-    pub fn first(alloc: Global, spec: &Spec) -> Result<Node, AllocError>
+    pub fn first(spec: &Spec, sets: &mut Sets) -> Result<Node, AllocError>
         ensures { IfOk result (λ node. IsFirst spec.now node) }
     {
         let state = opening(spec);
         let row = row_of(&state);
-        let mut sets = Vec::with_capacity(alloc, spec.n())?;
+        let mut own = Vec::with_capacity(sets.alloc, spec.n())?;
         for p in 0..spec.n() {
-            let set = close(alloc, &[state.as_slice()[p]], &row, spec, p)?;
-            sets.push(set)?;
+            let locals = close(sets.alloc, &[state.as_slice()[p]], &row, spec, p)?;
+            let set = sets.shared(locals)?;
+            own.push(set)?;
         }
         let origin = Origin {
             from: 0,
             process: 0,
             local: LocalState::default(),
         };
-        Ok(Node { row, sets, origin })
+        let row = Rc::new(sets.alloc, row)?;
+        Ok(Node {
+            row,
+            sets: own,
+            origin,
+        })
     }
 
     /// The last write of each process.
     pub fn row(&self) -> &View
         ensures { result.now.items ≡ self.now.row }
     {
-        &self.row
+        self.row.as_ref()
+    }
+
+    /// The last write of each process, to share.
+    ///
+    /// # Errors
+    ///
+    /// An allocation that fails.
+    pub fn shared_row(&self) -> Result<Rc<View>, AllocError>
+        ensures { IfOk result (λ row. row.value.items ≡ self.now.row) }
+    {
+        let row = self.row.clone()?;
+        Ok(row)
     }
 
     /// The write by which the node was reached first.
@@ -114,34 +138,26 @@ impl Node {
         self.sets[p].len()
     }
 
-    /// The node that the process of this origin leads to by its write, after which it is in this local state.
+    /// These local states of process `q`: the set of this node, if it has the same.
     ///
     /// # Errors
     ///
     /// An allocation that fails.
-    fn after(
+    fn share(
         &self,
-        alloc: Global,
-        spec: &Spec,
-        new: LocalState,
-        origin: Origin,
-    ) -> Result<Node, AllocError>
-        requires whole { IsWhole spec.now self.now }
-        requires process { origin.process < processes spec.now }
-        requires rounds { IsWithinRounds spec.now new }
-        ensures next { IfOk result (IsNext spec.now self.now origin.process new) }
-        ensures origin { IfOk result (λ node. node.origin ≡ origin) }
+        sets: &mut Sets,
+        q: usize,
+        locals: Vec<LocalState>,
+    ) -> Result<LocalSet, AllocError>
+        requires { q < length self.now.sets }
+        ensures { IfOk result (λ set. set.value.items ≡ locals.items) }
     {
-        let p = usize::from(origin.process);
-        let own = [new];
-        let row = row_with(&self.row, p, new.last);
-        let mut sets = Vec::with_capacity(alloc, spec.n())?;
-        for q in 0..spec.n() {
-            let old = self.old_after(p, &own, q);
-            let set = close(alloc, old, &row, spec, q)?;
-            sets.push(set)?;
+        let own = &self.sets[q];
+        if own.as_slice() == locals.as_slice() {
+            let set = own.clone()?;
+            return Ok(set);
         }
-        Ok(Node { row, sets, origin })
+        sets.shared(locals)
     }
 
     /// The local state of this place after its next step, if that is a write that changes memory.
@@ -157,7 +173,7 @@ impl Node {
         if !changes(&local) {
             return None;
         }
-        let Some(new) = moved(&local, &self.row, spec, place.process) else {
+        let Some(new) = moved(&local, self.row(), spec, place.process) else {
             return None;
         };
         Some(new)
@@ -168,37 +184,48 @@ impl Node {
         requires { p < length self.now.row }
         ensures { result.items ≡ slice_set self.now.row p last }
     {
-        row_with(&self.row, p, last)
+        row_with(self.row(), p, last)
     }
 
-    /// The node that a write leads to by which the process of this place is in this local state. This node is that of the place.
+    /// The node that a write leads to by the process of this place, which leaves this. This node is that of the place.
     ///
     /// # Errors
     ///
     /// An allocation that fails.
     pub fn edge(
         &self,
-        alloc: Global,
         spec: &Spec,
         place: Place,
-        new: LocalState,
+        written: Written,
+        sets: &mut Sets,
     ) -> Result<Node, AllocError>
         requires whole { IsWhole spec.now self.now }
         requires process { place.process < processes spec.now }
         requires there { place.index < length (set_of self.now place.process) }
-        requires rounds { IsWithinRounds spec.now new }
-        ensures next { IfOk result (IsNext spec.now self.now place.process new) }
+        requires rounds { IsWithinRounds spec.now written.new }
+        requires row { written.row.value.items ≡ slice_set self.now.row place.process written.new.last }
+        ensures next { IfOk result (IsNext spec.now self.now place.process written.new) }
         ensures origin { IfOk result (λ to. (local : LocalValue) → slice_get (set_of self.now place.process) place.index ≡ Some local → to.origin ≡ record { from = place.node; process = place.process; local = local }) }
     {
         let p = place.process;
-        let _n = spec.n(); // for the proof: it is at most 16
+        let own = [written.new];
+        let mut all = Vec::with_capacity(sets.alloc, spec.n())?;
+        for q in 0..spec.n() {
+            let old = self.old_after(p, &own, q);
+            let locals = close(sets.alloc, old, written.row.as_ref(), spec, q)?;
+            let set = self.share(sets, q, locals)?;
+            all.push(set)?;
+        }
         let origin = Origin {
             from: place.node,
             process: p as u8,
             local: self.set(p)[place.index],
         };
-        let to = self.after(alloc, spec, new, origin)?;
-        Ok(to)
+        Ok(Node {
+            row: written.row,
+            sets: all,
+            origin,
+        })
     }
 
     /// The marks of its local states.
@@ -218,7 +245,7 @@ impl Node {
         ensures below { result ≡ true → IsBelow self.now above.now }
         ensures other { result ≡ false → IsNotBelow self.now above.now }
     {
-        if self.row.as_slice() != above.row.as_slice() {
+        if self.row().as_slice() != above.row().as_slice() {
             return false;
         }
         if self.sets.len() != above.sets.len() {
@@ -293,9 +320,9 @@ pub fn marks_after(spec: &Spec, after: &After<'_>, count: usize) -> u64
 pub fn has_after(spec: &Spec, after: &After<'_>, above: &Node) -> bool
     requires width { length after.now.node.now.sets ≡ processes spec.now }
     ensures has { result ≡ true → HasAfter spec.now after.now.node.now after.now.process after.now.new after.now.row.now.items above.now }
-    ensures lacks { result ≡ false → LacksAfter spec.now after.now.node.now after.now.process after.now.new after.now.row.now.items above.now }
+    ensures without { result ≡ false → IsWithoutAfter spec.now after.now.node.now after.now.process after.now.new after.now.row.now.items above.now }
 {
-    if after.row.as_slice() != above.row.as_slice() {
+    if after.row.as_slice() != above.row().as_slice() {
         return false;
     }
     if above.sets.len() != spec.n() {
@@ -356,7 +383,7 @@ fn changes(local: &LocalState) -> bool
 }
 
 /// Adds a local state to a set, unless it is there. Gives whether it was added.
-fn put(set: &mut LocalSet, local: LocalState) -> Result<bool, AllocError>
+fn put(set: &mut Vec<LocalState>, local: LocalState) -> Result<bool, AllocError>
     ensures there { OnOk result (Contains set.new.items local) }
     ensures added { OnOk result (IsAdded set.old.items local set.new.items) }
     ensures known { IfOk result (λ added. added ≡ false → set.new.items ≡ set.old.items) }
@@ -375,7 +402,7 @@ fn put(set: &mut LocalSet, local: LocalState) -> Result<bool, AllocError>
 ///
 /// An allocation that fails.
 fn go_on(
-    set: &mut LocalSet,
+    set: &mut Vec<LocalState>,
     local: LocalState,
     row: &View,
     spec: &Spec,
@@ -412,7 +439,7 @@ fn close(
     row: &View,
     spec: &Spec,
     p: usize,
-) -> Result<LocalSet, AllocError>
+) -> Result<Vec<LocalState>, AllocError>
     requires process { p < processes spec.now }
     requires rounds { AreWithinRounds spec.now old.now }
     ensures { IfOk result (λ set. IsGrown spec.now row.now.items p old.now set.items) }

@@ -118,7 +118,7 @@ fn list_all(
     ensures runs { IfOk result (λ all. (i : ℕ) (one : ListedValue) → slice_get all.items i ≡ Some one → HasRun spec.now brief one) }
     ensures ends { IfOk result (λ all. listed_ends all.items ≡ outcomes_in found.now) }
 {
-    let mut all = Vec::new(alloc);
+    let mut all = Vec::with_capacity(alloc, found.len())?;
     for index in 0..found.len() {
         all.push(list_one(alloc, spec, found, index, brief)?)?;
     }

@@ -1,20 +1,20 @@
-use Rattle.std.proofs.Common.{List, sym, subst, ap, ◌∙◌, arith, inl, inr}
+use Rattle.std.proofs.Common.{List, sym, subst, ◌∙◌, arith, inl, inr}
 use Rattle.std.specs.List.{Contains}
 use Rattle.std.proofs.lemmas.Bool.{cases_eq}
 use Rattle.run_search.specs.declared.local_state.LocalState.{LocalState}
 use Rattle.run_search.specs.Limits.{IsAfter}
-use Rattle.run_search.specs.Nodes.{Node, set_of}
+use Rattle.run_search.specs.Nodes.{set_of}
 use Rattle.run_search.proofs.Limiting.{after_in, in_after}
 use Rattle.run_search.proofs.Same.{not_not, other_row, same_row}
 use Rattle.run_search.proofs.node.has_after.Goals as goal
 
-pub returns-then-ne-clause-lacks : goal.returns-then-ne-clause-lacks
-returns-then-ne-clause-lacks c = λ no. inl (λ same.
+pub returns-then-ne-clause-without : goal.returns-then-ne-clause-without
+returns-then-ne-clause-without c = λ no. inl (λ same.
     other_row c.as_slice.result.now c.as_slice-2.result.now c.if-ne.ensures
-    (c.as_slice.ensures.value ∙ sym same ∙ ap (λ (n : Node). n.row) (sym c.above.view_is) ∙ sym c.as_slice-2.ensures.value))
+    (c.as_slice.ensures.value ∙ sym same ∙ sym c.row.ensures ∙ sym c.as_slice-2.ensures.value))
 
-pub returns-then-not-is_within-clause-lacks : goal.returns-then-not-is_within-clause-lacks
-returns-then-not-is_within-clause-lacks c = λ no.
+pub returns-then-not-is_within-clause-without : goal.returns-then-not-is_within-clause-without
+returns-then-not-is_within-clause-without c = λ no.
     let after = c.args.after.now in
     let more = c.if-not-is_within.ensures in
     inr (inr (
@@ -39,6 +39,6 @@ pub returns-clause-has : goal.returns-clause-has
 returns-clause-has c = λ yes. record {
   row_is =
       let same = same_row c.as_slice.result.now c.as_slice-2.result.now (not_not _ c.if-ne.ensures) in
-      ap (λ (n : Node). n.row) (sym c.above.view_is) ∙ sym c.as_slice-2.ensures.value ∙ sym same ∙ c.as_slice.ensures.value;
+      sym c.row.ensures ∙ sym c.as_slice-2.ensures.value ∙ sym same ∙ c.as_slice.ensures.value;
   all = λ q local below is. c.loop-q.invariant q local (omega (arith, below, c.loop-q-test.false, c.n-q-end.ensures.value)) is;
 }

@@ -6,13 +6,13 @@ use Rattle.room_search.proofs.Noting.{left_chosen, must_crash}
 use Rattle.room_search.proofs.choice.Choice.with_local.Goals as goal
 
 pub returns-in_default-clause-chosen : goal.returns-in_default-clause-chosen
-returns-in_default-clause-chosen c = λ crashed words stand.
+returns-in_default-clause-chosen c = λ crashed words may_be.
     let subject = c.args.source.now.subject.now in
     let start = configuration_of subject.start.now in
     let i = length c.args.self.now.numbers.items in
     let none = c.in_default.ensures.none in
     let why : MustHaveCrashed subject.spec.now start c.args.node.now i c.args.local.now = subst (λ (k : ℕ). MustHaveCrashed subject.spec.now start c.args.node.now k c.args.local.now) c.len-i.ensures.value (c.may_be_alive-is_alive.ensures none.0) in
-    let must = must_crash subject.spec.now start c.args.node.now i c.args.local.now why crashed words stand in
+    let must = must_crash subject.spec.now start c.args.node.now i c.args.local.now why crashed words may_be in
     omega (arith, must, none.1)
 
 pub returns-clause-chosen : goal.returns-clause-chosen

@@ -20,7 +20,7 @@ loop-p-preserved c =
     let p = c.loop-p.p in
     let node = c.args.self.now in
     let new = c.with_marks-marks.result in
-    let count = sets_count c.self.inside.sets.items c.self.inside.row.items c.self.inside.origin node (λ s. s.items) c.self.view_is in
+    let count = sets_count c.self.inside.sets.items c.self.inside.row.value.items c.self.inside.origin node (λ s. s.value.items) c.self.view_is in
     record {
       all = λ q local below there. elim (cases_eq q p) [
         | inl same ↦
@@ -37,7 +37,7 @@ loop-p-preserved c =
 pub returns-clause-all : goal.returns-clause-all
 returns-clause-all c = λ p local there.
     let node = c.args.self.now in
-    let count = sets_count c.self.inside.sets.items c.self.inside.row.items c.self.inside.origin node (λ s. s.items) c.self.view_is in
+    let count = sets_count c.self.inside.sets.items c.self.inside.row.value.items c.self.inside.origin node (λ s. s.value.items) c.self.view_is in
     elim (cases_lt p c.loop-p.p) [
       | inl below ↦ c.loop-p.invariant.all p local below there
       | inr past ↦ absurd (none_past node p local (omega (arith, past, count, c.loop-p-test.false, c.len-p-end.ensures)) there)
