@@ -21,13 +21,13 @@ use Rattle.view_outcomes.specs.Asked.{AreInputsAsked, IsTaskAsked}
 use Rattle.view_outcomes.specs.Blocks.{IsOutcomesFor}
 use Rattle.decision_tasks.specs.Tasks.{task_in}
 use Rattle.decision_tasks.specs.declared.task.LineFault.{LineFault}
-use Rattle.view_outcomes.specs.Values.{values_in}
+use Rattle.input_vectors.specs.Values.{values_in}
 use Rattle.view_outcomes.specs.declared.search.Asked.{Asked}
 use Rattle.view_outcomes.specs.declared.search.Asked.TheVariants as asking
 use Rattle.view_outcomes.specs.declared.search.Form.{Form}
 use Rattle.view_outcomes.specs.declared.search.Form.TheVariants.{Text, Json}
 use Rattle.view_outcomes.specs.declared.search.Search.{Search}
-use Rattle.view_outcomes.specs.declared.values.ValuesFault.{ValuesFault}
+use Rattle.input_vectors.specs.declared.values.ValuesFault.{ValuesFault}
 use Rattle.view_draw.specs.Drawn.{IsDrawn}
 use Rattle.view_transcript.specs.Transcripts.{IsTranscribed}
 use Rattle.view_page.specs.Pages.{IsKeptPage, IsOpenPage, IsPageFor, fault_among, fault_in}
@@ -36,6 +36,7 @@ use Rattle.view_open.specs.declared.plan.OpenPlan.{OpenPlan}
 use Rattle.view_rooms.specs.Blocks.{IsRoomsFor}
 use Rattle.view_rooms.specs.declared.plan.RoomPlan.{RoomPlan}
 use Rattle.room_sample.specs.declared.sampling.Plan.{Plan}
+use Rattle.view_sample.specs.Inputs.{IsInputsSample}
 use Rattle.view_sample.specs.Keeping.{IsKeptSample}
 use Rattle.view_sample.specs.Sample.{IsSampleFor}
 use Rattle.view_trace.specs.Trace.{IsTraceIn}
@@ -171,14 +172,20 @@ IsSearchShown searching input ending output = IsSearchShownBy searching.rooms se
 abbrev pub sampled_by : Sampling → Option (List ℕ)
 sampled_by sampling = option_map (λ text. text.now) sampling.keeps
 
--- rooms are sampled by a plan, or their histories are judged by this task if there is one
-abbrev pub IsSampledWith : Option (List Tree) → Plan → List ℕ → Result Outcome AllocError → List ℕ → Type 0
-IsSampledWith None plan input ending output = IsSampleFor plan input ending output
-IsSampledWith (Some lines) plan input ending output = IsWhole (IsKeptSample lines plan input) ending output
+-- the values of which the inputs of sampled rooms are made, as text
+abbrev pub sampled_with : Sampling → Option (List ℕ)
+sampled_with sampling = option_map (λ text. text.now) sampling.values
+
+-- rooms are sampled by a plan; or their tasks are judged with all inputs of the values that a text says, or their histories by the task that a text says
+abbrev pub IsSampledBy : Option (List ℕ) → Option (List ℕ) → Plan → List ℕ → Result Outcome AllocError → List ℕ → Type 0
+IsSampledBy None None plan input ending output = IsSampleFor plan input ending output
+IsSampledBy (Some text) None plan input ending output = (values : List ℕ) × (values_in text ≡ Ok values) × IsWhole (IsInputsSample values plan input) ending output
+IsSampledBy None (Some text) plan input ending output = (lines : List Tree) × (task_in text ≡ Ok lines) × IsWhole (IsKeptSample lines plan input) ending output
+IsSampledBy (Some values) (Some text) plan input ending output = ⊥
 
 -- rooms are sampled as is requested
 abbrev pub IsSamplingShown : Sampling → List ℕ → Result Outcome AllocError → List ℕ → Type 0
-IsSamplingShown sampling input ending output = (task : Option (List Tree)) × IsTaskOf (sampled_by sampling) task × IsSampledWith task sampling.plan input ending output
+IsSamplingShown sampling input ending output = IsSampledBy (sampled_with sampling) (sampled_by sampling) sampling.plan input ending output
 
 -- a page of the file; or of the transcript that it is read as, whose runs are judged by the task that this text says; or of the script that it is read as, with the outcomes
 -- that are open after each command
@@ -287,9 +294,13 @@ paging_fault_of (Some text) (Some plan) = Some OpenTask
 abbrev pub paging_fault : Paging → Option OptionFault
 paging_fault paging = paging_fault_of (text_of paging.keeps) paging.search
 
--- the fault of the options of `sample`: one outcome alone is asked for, and so is whether a task is kept; or that of the task
+-- one outcome alone is asked for, and so is whether tasks are kept
+abbrev pub is_more_of_sample : Sampling → Bool
+is_more_of_sample sampling = is_some sampling.plan.outcome && (is_some sampling.values || is_some sampling.keeps)
+
+-- the fault of the options of `sample`
 abbrev pub sampling_fault : Sampling → Option OptionFault
-sampling_fault sampling = if is_some sampling.plan.outcome && is_some sampling.keeps then Some Alone else keeps_fault (sampled_by sampling)
+sampling_fault sampling = if is_more_of_sample sampling then Some Alone else search_fault (sampled_with sampling) (sampled_by sampling)
 
 -- the first of two faults, if there is one
 abbrev pub either_fault : Option OptionFault → Option OptionFault → Option OptionFault

@@ -33,9 +33,10 @@ pub record IsPlanAmong (found : Option (List ℕ × List Row)) (plan : Plan) : T
   pub top : IsNumberIfAny (value_among (codes "top") found) plan.top
   pub outcome : IsNumberIfAny (value_among (codes "outcome") found) plan.outcome
 
--- and the task by which the rooms' histories are judged
+-- the values of which the rooms' inputs are made, and the task by which their histories are judged
 pub record IsSamplingAmong (found : Option (List ℕ × List Row)) (sampling : Sampling) : Type 0 where
   pub plan : IsPlanAmong found sampling.plan
+  pub values : option_map (λ text. text.now) sampling.values ≡ value_among (codes "inputs") found
   pub keeps : option_map (λ text. text.now) sampling.keeps ≡ keeps_among found
 
 -- how a transcript is explained, as the values of `why` say

@@ -8,7 +8,7 @@ use Rattle.room_files.specs.Faults.{text_code}
 use Rattle.room_files.specs.declared.outcome.Outcome.{Outcome}
 use Rattle.room_files.specs.declared.outcome.Outcome.TheVariants.{AllWell, SomeRefused}
 use Rattle.view_grade.specs.Grades.{fault_text}
-use Rattle.view_outcomes.specs.Values.{values_fault_text}
+use Rattle.input_vectors.specs.Values.{values_fault_text}
 use Rattle.bgview_command_line.specs.declared.words.Mode.{Mode}
 use Rattle.bgview_command_line.specs.declared.words.Mode.TheVariants.{Draw, Transcript}
 use Rattle.bgview.specs.Unread.{unread_note}

@@ -5,11 +5,11 @@ ghost use Rattle.bgview.specs.declared.fault.ViewFault.TheVariants.{Device};
 ghost use Rattle.io_text.specs.declared.fault.DeviceFault.TheVariants.{Memory};
 
 use decision_tasks::LineFault;
+use input_vectors::ValuesFault;
 use io_text::DeviceFault;
 use room_files::{InputFault, Outcome, TextFault};
 use std::alloc::AllocError;
 use view_grade::GoalFault;
-use view_outcomes::ValuesFault;
 use view_sum::{BadPart, SumFault};
 
 /// Why an option's text says nothing.

@@ -39,6 +39,8 @@ pub struct Grading<'a> {
 #[derive(Clone, Copy)]
 pub struct Sampling<'a> {
     pub plan: Plan,
+    /// The values of which inputs are made, as text, if the rooms' tasks are judged with all of them.
+    pub values: Option<&'a str>,
     /// A task of one's own, as text, if the rooms' histories are judged by it.
     pub keeps: Option<&'a [u8]>,
 }
@@ -226,12 +228,14 @@ fn grading_in<'a>(matches: &ArgMatches<'a>) -> Grading<'a>
     }
 }
 
-/// How rooms are sampled, and by which task their histories are judged, as the words say.
+/// How rooms are sampled, and with which inputs and by which task they are judged, as the words say.
 fn sampling_in<'a>(matches: &ArgMatches<'a>) -> Sampling<'a>
     ensures { IsSamplingAmong (subcommand_rows_of matches.now) result }
 {
+    let values = text_if_any(matches, "inputs");
     Sampling {
         plan: plan_in(matches),
+        values,
         keeps: task_if_any(matches),
     }
 }

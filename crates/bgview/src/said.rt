@@ -3,7 +3,7 @@ ghost use Rattle.std.specs.Prelude.{◌≡◌, ◌++◌, ◌||◌, List, OnOk, c
 ghost use Rattle.std.specs.Io.KnownBytes.{Appends};
 ghost use Rattle.program_io.specs.Errors.{fault_line};
 ghost use Rattle.view_grade.specs.Grades.{fault_text};
-ghost use Rattle.view_outcomes.specs.Values.{values_fault_text};
+ghost use Rattle.input_vectors.specs.Values.{values_fault_text};
 ghost use Rattle.bgview.specs.Said.{IsEndSaid, fault_words, line_fault_text, line_place_text, line_reason_text, part_words, refused_note, unread_text};
 ghost use Rattle.bgview.specs.Unread.{unread_note};
 
@@ -12,12 +12,12 @@ use crate::fault::{OptionFault, ViewFault};
 use crate::unread::{Unread, why};
 use bgview_command_line::Mode;
 use decision_tasks::LineFault;
+use input_vectors::ValuesFault;
 use io_text::{Device, DeviceFault, write_output};
 use program_io::{say_both, say_number, say_place};
 use room_files::Outcome;
 use std::io::Write;
 use view_grade::GoalFault;
-use view_outcomes::ValuesFault;
 
 /// Says how the program ends, with these notes on its inputs.
 pub fn say_end<E: Write>(errors: &mut Device<E>, mode: Mode, ended: &Ended<'_>, notes: &[u8])

@@ -1,5 +1,5 @@
 //! From a request and an input to what is shown: one call for each mode.
-ghost use Rattle.std.specs.Prelude.{◌≡◌, ◌≤◌, Ok, None, Some, IfErr, IfOk, IsOk, false, length};
+ghost use Rattle.std.specs.Prelude.{◌≡◌, ◌≤◌, ℕ, List, Ok, None, Some, IfErr, IfOk, IsOk, false, length};
 ghost use Rattle.io_text.specs.Reading.{most_bytes};
 ghost use Rattle.file_faults.specs.Lint.{IsLintIn};
 ghost use Rattle.room_files.specs.Blocks.{IsFaultOr};
@@ -9,12 +9,14 @@ ghost use Rattle.script_play.specs.Script.{script_says};
 ghost use Rattle.view_outcomes.specs.Asked.{AreInputsAsked, IsTaskAsked};
 ghost use Rattle.view_outcomes.specs.Blocks.{IsOutcomesFor};
 ghost use Rattle.decision_tasks.specs.Tasks.{task_in};
-ghost use Rattle.view_outcomes.specs.Values.{values_in};
+ghost use Rattle.protocol_lang.specs.Trees.{Tree};
+ghost use Rattle.input_vectors.specs.Values.{values_in};
 ghost use Rattle.view_outcomes.specs.declared.search.Search.{Search as SearchValue};
 ghost use Rattle.view_page.specs.Pages.{fault_in};
-ghost use Rattle.bgview.specs.Answers.{AreRunsShown, Ends, EndsRequest, IsExplainedBy, IsGradeFor, IsPageShown, IsPageWith, IsSamplingShown, IsSearchFor, IsSearchShown, IsShown, IsTaskOf, IsWhole, IsWhyShown, asked_alone, goal_fault_in, goal_text, grade_fault, is_json, is_more_asked, is_more_of_open, is_more_of_rooms, judged_by, keeps_fault, keeps_fault_in, keeps_text, kept_by, open_fault, open_plan, page_fault, paging_fault, room_plan, rooms_fault, runs_fault, sampled_by, sampling_fault, search_fault, searching_fault, values_fault_in, values_text};
+ghost use Rattle.bgview.specs.Answers.{AreRunsShown, Ends, EndsRequest, IsExplainedBy, IsGradeFor, IsPageShown, IsPageWith, IsSampledBy, IsSamplingShown, IsSearchFor, IsSearchShown, IsShown, IsTaskOf, IsWhole, IsWhyShown, asked_alone, goal_fault_in, goal_text, grade_fault, is_json, is_more_asked, is_more_of_open, is_more_of_rooms, is_more_of_sample, judged_by, keeps_fault, keeps_fault_in, keeps_text, kept_by, open_fault, open_plan, page_fault, paging_fault, room_plan, rooms_fault, runs_fault, sampled_by, sampled_with, sampling_fault, search_fault, searching_fault, values_fault_in, values_text};
 ghost use Rattle.view_open.specs.Watched.{IsOpenFor};
 ghost use Rattle.view_rooms.specs.Blocks.{IsRoomsFor};
+ghost use Rattle.view_sample.specs.Inputs.{IsInputsSample};
 ghost use Rattle.view_sample.specs.Keeping.{IsKeptSample};
 ghost use Rattle.view_sample.specs.Sample.{IsSampleFor};
 ghost use Rattle.view_trace.specs.Trace.{IsTraceIn};
@@ -26,6 +28,7 @@ use crate::request::{Explaining, Grading, Paging, Request, Sampling, Searching};
 use crate::system::{Aside, System};
 use decision_tasks::DecisionTask;
 use file_faults::{lint, lint_json, room_faults, script_faults, transcript_faults, warnings_of};
+use input_vectors::{Values, read_values};
 use io_text::{DeviceFault, Text};
 use room_files::{Answer, InputFault};
 use room_sample::{Plan, Threaded};
@@ -36,10 +39,10 @@ use std::thread::Threads;
 use view_draw::draw;
 use view_grade::{Goal, goal_forms, grade, grade_kept, read_goal};
 use view_open::{OpenPlan, open_outcomes};
-use view_outcomes::{Asked, Form, Search, read_values, search_blocks};
+use view_outcomes::{Asked, Form, Search, search_blocks};
 use view_page::{faults_of, page, page_of_kept, page_of_open};
 use view_rooms::{RoomPlan, search_rooms};
-use view_sample::{KeptPlan, sample_blocks, sample_kept};
+use view_sample::{InputsPlan, KeptPlan, sample_blocks, sample_inputs, sample_kept};
 use view_trace::{trace, trace_json};
 use view_transcript::transcribe;
 use view_why::{explain, explain_json, explain_kept};
@@ -283,7 +286,7 @@ fn explained_alone(alloc: Global, json: bool, input: &[u8]) -> Result<Answer, In
     explain(alloc, input)
 }
 
-/// Samples rooms, or judges their histories, unless the options are not valid. What is said of refused blocks becomes the notes of `aside`.
+/// Samples rooms, with their own inputs or all of some values, or judges their histories, unless the options are not valid. What is said of refused blocks becomes the notes of `aside`.
 fn sample_or_fail<H: Threads + Sync, I, P: Progress>(
     system: &System<'_, H, I>,
     sampling: &Sampling<'_>,
@@ -295,41 +298,37 @@ fn sample_or_fail<H: Threads + Sync, I, P: Progress>(
     ensures err { IfErr result (Ends None (sampling_fault sampling.now)) }
     ensures notes { AreRoomNotes input.now result aside.new.notes }
 {
-    if sampling.plan.outcome.is_some() && sampling.keeps.is_some() {
+    if is_more_of_sample(sampling) {
         return Err(ViewFault::BadOption(OptionFault::Alone));
     }
-    let task = sampling_task(system.alloc, sampling)?;
-    sample_by(system, sampling, &task, input, aside)
+    sample_asked(system, sampling, input, aside)
 }
 
-/// The task of one's own by which the histories of sampled rooms are judged, if there is one.
-fn sampling_task(alloc: Global, sampling: &Sampling<'_>) -> Result<Option<DecisionTask>, ViewFault>
-    ensures task { IfOk result (λ task. IsTaskOf (sampled_by sampling.now) task) }
-    ensures err { IfErr result (Ends None (keeps_fault (sampled_by sampling.now))) }
+/// Whether one outcome alone is asked for, and so is whether tasks are kept.
+fn is_more_of_sample(sampling: &Sampling<'_>) -> bool
+    ensures { result ≡ is_more_of_sample sampling.now }
 {
-    let Some(text) = sampling.keeps else {
-        return Ok(None);
-    };
-    Ok(Some(read_task(alloc, text)?))
+    sampling.plan.outcome.is_some() && (sampling.values.is_some() || sampling.keeps.is_some())
 }
 
-/// Samples rooms, or judges their histories by this task if there is one. What is said of refused blocks becomes the notes of `aside`.
-fn sample_by<H: Threads + Sync, I, P: Progress>(
+/// The same, unless the values of inputs, or a task of one's own, are not valid.
+fn sample_asked<H: Threads + Sync, I, P: Progress>(
     system: &System<'_, H, I>,
     sampling: &Sampling<'_>,
-    task: &Option<DecisionTask>,
     input: &[u8],
     aside: &mut Aside<P>,
 ) -> Result<PlayText, ViewFault>
-    requires input { length input.now ≤ most_bytes }
-    requires task { IsTaskOf (sampled_by sampling.now) task.now }
-    ensures shown { IfOk result (λ shown. IsSamplingShown sampling.now input.now shown.ending shown.output) }
-    ensures err { IfErr result (Ends None None) }
+    requires { length input.now ≤ most_bytes }
+    ensures shown { IfOk result (λ shown. IsSampledBy (sampled_with sampling.now) (sampled_by sampling.now) sampling.now.plan input.now shown.ending shown.output) }
+    ensures err { IfErr result (Ends None (search_fault (sampled_with sampling.now) (sampled_by sampling.now))) }
     ensures notes { AreRoomNotes input.now result aside.new.notes }
 {
-    match task {
-        None => sampled(system, &sampling.plan, input, aside),
-        Some(task) => sample_kept_by(system.alloc, &sampling.plan, task, input, aside),
+    let plan = &sampling.plan;
+    match (sampling.values, sampling.keeps) {
+        (None, None) => sampled(system, plan, input, aside),
+        (Some(values), None) => sample_inputs_of(system, plan, values, input, aside),
+        (None, Some(keeps)) => sample_kept_by(system.alloc, plan, keeps, input, aside),
+        (Some(_), Some(_)) => Err(ViewFault::BadOption(OptionFault::Both)),
     }
 }
 
@@ -351,19 +350,55 @@ fn sampled<H: Threads + Sync, I, P: Progress>(
     Ok(sample_blocks(&workers, alloc, input, plan, &mut aside.progress)?)
 }
 
-/// Judges the histories of sampled rooms by this task. What is said of refused blocks becomes the notes of `aside`.
-fn sample_kept_by<P: Progress>(
-    alloc: Global,
+/// Judges the tasks of sampled rooms with all inputs of the values that a text says. What is said of refused blocks becomes the notes of `aside`.
+fn sample_inputs_of<H: Threads + Sync, I, P: Progress>(
+    system: &System<'_, H, I>,
     plan: &Plan,
-    task: &DecisionTask,
+    text: &str,
     input: &[u8],
     aside: &mut Aside<P>,
 ) -> Result<PlayText, ViewFault>
     requires { length input.now ≤ most_bytes }
-    ensures shown { IfOk result (λ shown. IsWhole (IsKeptSample task.now plan.now input.now) shown.ending shown.output) }
-    ensures err { IfErr result (Ends None None) }
+    ensures shown { IfOk result (λ shown. (values : List ℕ) × (values_in text.now ≡ Ok values) × IsWhole (IsInputsSample values plan.now input.now) shown.ending shown.output) }
+    ensures err { IfErr result (Ends None (values_fault_in (values_in text.now))) }
     ensures notes { AreRoomNotes input.now result aside.new.notes }
 {
+    let values = values_or_fail(text)?;
+    aside.notes = room_faults(system.alloc, input)?;
+    let asked = InputsPlan {
+        alloc: system.alloc,
+        plan,
+        values: values.as_slice(),
+    };
+    let workers = Threaded::new(system.threads);
+    Ok(whole(sample_inputs(&workers, input, &asked, &mut aside.progress)?))
+}
+
+/// The values of which inputs are made that a text says.
+fn values_or_fail(text: &str) -> Result<Values, ViewFault>
+    ensures values { IfOk result (λ values. values_in text.now ≡ Ok values.items) }
+    ensures err { IfErr result (Ends None (values_fault_in (values_in text.now))) }
+{
+    match read_values(text.as_bytes()) {
+        Ok(values) => Ok(values),
+        Err(fault) => Err(ViewFault::BadOption(OptionFault::Inputs(fault))),
+    }
+}
+
+/// Judges the histories of sampled rooms by the task that a text says. What is said of refused blocks becomes the notes of `aside`.
+fn sample_kept_by<P: Progress>(
+    alloc: Global,
+    plan: &Plan,
+    text: &[u8],
+    input: &[u8],
+    aside: &mut Aside<P>,
+) -> Result<PlayText, ViewFault>
+    requires { length input.now ≤ most_bytes }
+    ensures shown { IfOk result (λ shown. (lines : List Tree) × (task_in text.now ≡ Ok lines) × IsWhole (IsKeptSample lines plan.now input.now) shown.ending shown.output) }
+    ensures err { IfErr result (Ends None (keeps_fault_in (task_in text.now))) }
+    ensures notes { AreRoomNotes input.now result aside.new.notes }
+{
+    let task = &read_task(alloc, text)?;
     aside.notes = room_faults(alloc, input)?;
     let judged = KeptPlan { plan, task };
     Ok(whole(sample_kept(alloc, input, &judged, &mut aside.progress)?))

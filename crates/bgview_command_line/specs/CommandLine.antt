@@ -112,9 +112,13 @@ choosing_app = with_rule (with_rule (with_rule drawing_app group_rule) top_rule)
 abbrev pub sampling_app : App
 sampling_app = with_rule (with_rule (with_rule choosing_app workers_rule) json_rule) brief_rule
 
+-- an option that takes a text
+abbrev pub inputs_rule : Rule
+inputs_rule = record (new_rule (codes "inputs")) { long = Some (codes "inputs"); value_names = 1 }
+
 -- the subcommand `sample`
 abbrev pub sample_app : App
-sample_app = with_own_task sampling_app
+sample_app = with_own_task (with_rule sampling_app inputs_rule)
 
 -- an option that takes no value
 abbrev pub task_rule : Rule
@@ -135,10 +139,6 @@ picking_app = with_rule (with_rule searching_app top_rule) outcome_rule
 -- and how they are written
 abbrev pub listing_app : App
 listing_app = with_rule (with_rule picking_app json_rule) brief_rule
-
--- an option that takes a text
-abbrev pub inputs_rule : Rule
-inputs_rule = record (new_rule (codes "inputs")) { long = Some (codes "inputs"); value_names = 1 }
 
 -- the subcommand `outcomes`, which takes besides a flag and a text
 abbrev pub outcomes_app : App

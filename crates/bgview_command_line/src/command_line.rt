@@ -186,7 +186,8 @@ fn sample_command<'a>(alloc: Global) -> Result<Command<'a>, AllocError>
     ensures local { IfOk result (λ command. (out-Command command).has_globals ≡ false) }
 {
     let sample = sampling_command(alloc)?;
-    let with_task = sample.arg(keeps_option(
+    let with_inputs = sample.arg(inputs_option(alloc))?;
+    let with_task = with_inputs.arg(keeps_option(
         alloc,
         "Says by how many schedules one of these lines doesn't hold for each process that has decided, after each decision of the room's history, as in 'mine == min; mine == max': conditions as of `bgview outcomes --keeps`; lists no outcome",
     ))?;
@@ -230,7 +231,7 @@ fn drawing_command<'a>(alloc: Global) -> Result<Command<'a>, AllocError>
         alloc,
         "sample",
         "Runs each room of a file by random schedules, and counts the outcomes",
-        "bgview sample [--schedules N] [--crashes F] [--seed S] [--from K] [--workers W] [--group] [--top K] [--outcome K] [--json] [--brief] [--keeps TASK | --keeps-file TASKFILE] [FILE]",
+        "bgview sample [--schedules N] [--crashes F] [--seed S] [--from K] [--workers W] [--group] [--top K] [--outcome K] [--json] [--brief] [--inputs A,B,..] [--keeps TASK | --keeps-file TASKFILE] [FILE]",
         "The rooms; without it, standard input is read",
     )?;
     let with_schedules = sample.arg(schedules_option(alloc))?;

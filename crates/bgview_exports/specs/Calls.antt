@@ -25,13 +25,13 @@ use Rattle.view_grade.specs.declared.goal.GoalFault.{GoalFault}
 use Rattle.view_grade.specs.declared.goal.GoalFault.TheVariants.{NoClaim, NoJoint}
 use Rattle.view_outcomes.specs.Asked.{AreInputsAsked, IsTaskAsked}
 use Rattle.view_outcomes.specs.Blocks.{IsOutcomesFor}
-use Rattle.view_outcomes.specs.Values.{values_in}
+use Rattle.input_vectors.specs.Values.{values_in}
 use Rattle.view_outcomes.specs.declared.search.Asked.{Asked}
 use Rattle.view_outcomes.specs.declared.search.Form.{Form}
 use Rattle.view_outcomes.specs.declared.search.Search.{Search}
-use Rattle.view_outcomes.specs.declared.values.TheConstants.{MAX_VALUES}
-use Rattle.view_outcomes.specs.declared.values.ValuesFault.{ValuesFault}
-use Rattle.view_outcomes.specs.declared.values.ValuesFault.TheVariants.{NoNumber, Repeated, TooMany}
+use Rattle.input_vectors.specs.declared.values.TheConstants.{MAX_VALUES}
+use Rattle.input_vectors.specs.declared.values.ValuesFault.{ValuesFault}
+use Rattle.input_vectors.specs.declared.values.ValuesFault.TheVariants.{NoNumber, Repeated, TooMany}
 use Rattle.view_rooms.specs.declared.plan.RoomPlan.{RoomPlan}
 use Rattle.bgview_exports.specs.declared.asked.SamplePlan.{SamplePlan}
 use Rattle.bgview_exports.specs.declared.asked.SearchPlan.{SearchPlan}

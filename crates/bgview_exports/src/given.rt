@@ -5,11 +5,11 @@ ghost use Rattle.bgview_exports.specs.Calls.{claim_of, ending_status, fault_of, 
 ghost use Rattle.bgview_exports.specs.declared.given.NoAnswer.TheVariants.{Fault};
 
 use decision_tasks::LineFault;
+use input_vectors::{MAX_VALUES, ValuesFault};
 use room_files::{InputFault, Outcome};
 use script_play::PlayText;
 use std::alloc::AllocError;
 use view_grade::GoalFault;
-use view_outcomes::{MAX_VALUES, ValuesFault};
 
 /// How a call ended, as a struct of C.
 #[repr(C)]

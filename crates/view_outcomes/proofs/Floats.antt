@@ -5,8 +5,8 @@ use Rattle.std.specs.Global.{Vec}
 use Rattle.std.specs.List.{filter, range_with_len}
 use Rattle.serde_json.specs.Data.{Data, boolean, null}
 use Rattle.serde_json.specs.Written.{has_float}
-use Rattle.json_lines.specs.Values.{events_data, number_data}
-use Rattle.json_lines.proofs.CallerLemmas.{both, events_are, items_are}
+use Rattle.json_lines.specs.Values.{events_data, number_data, numbers_data}
+use Rattle.json_lines.proofs.CallerLemmas.{both, events_are, items_are, numbers_are}
 use Rattle.room_spec.specs.Rooms.{RoomSpec, processes}
 use Rattle.transcript.specs.declared.event.Event.{Event}
 use Rattle.run_search.specs.declared.ended.Ended.{Ended}
@@ -18,7 +18,7 @@ use Rattle.decision_tasks.specs.declared.judging.DecisionJudgement.TheVariants a
 use Rattle.view_outcomes.specs.declared.listing.AllOutcomes.{AllOutcomes}
 use Rattle.view_outcomes.specs.declared.listing.Listed.{Listed}
 use Rattle.view_outcomes.specs.Counts.{can_be_spent}
-use Rattle.view_outcomes.specs.Json.{broken_unless, decisions_data, end_data, ends_data, found_data, judgement_data, list_data, outcome_data, room_data, room_decisions_data, room_task_data, room_vectors_data, run_data, spent_data, task_data, too_many_data, unfinished_data, unjudged_data, unsearched_data, vectors_data, verdict_data}
+use Rattle.view_outcomes.specs.Json.{broken_unless, decisions_data, end_data, ends_data, found_data, judgement_data, outcome_data, room_decisions_data, room_task_data, room_vectors_data, run_data, spent_data, task_data, too_many_data, unfinished_data, unjudged_data, unsearched_data, vectors_data, verdict_data}
 
 -- a value in front of others
 next : (value : Data) (rest : Bool) → has_float value ≡ false → rest ≡ false → (has_float value || rest) ≡ false
@@ -27,9 +27,6 @@ next value rest first others = both (has_float value) rest first others
 -- the last one
 last : (value : Data) → has_float value ≡ false → (has_float value || false) ≡ false
 last value is = both (has_float value) false is refl
-
-list_is : (numbers : List ℕ) → has_float (list_data numbers) ≡ false
-list_is numbers = items_are number_data (λ n. refl) numbers
 
 end_is : (ended : Ended) → has_float (end_data ended) ≡ false
 end_is (Decided v) = refl
@@ -53,7 +50,7 @@ task_is (Some most) broken kept first second = next broken (has_float kept || fa
 room_task_is : (spec : RoomSpec) (limit : ℕ) (nodes broken kept : Data) → has_float nodes ≡ false → has_float broken ≡ false → has_float kept ≡ false → has_float (room_task_data spec limit nodes broken kept) ≡ false
 room_task_is spec limit nodes broken kept of_nodes of_broken of_kept =
     let task = task_data spec.task broken kept in
-    next (list_data spec.inputs) (has_float nodes || (has_float task || false)) (list_is spec.inputs)
+    next (numbers_data spec.inputs) (has_float nodes || (has_float task || false)) (numbers_are spec.inputs)
     (next nodes (has_float task || false) of_nodes (last task (task_is spec.task broken kept of_broken of_kept)))
 
 unless_is : (brief : Bool) (events : List Event) → has_float (broken_unless brief events) ≡ false
@@ -71,14 +68,14 @@ pub found_is : (spec : RoomSpec) (crashes limit : ℕ) (all : AllOutcomes) → h
 found_is spec crashes limit all =
     let spent = spent_data (processes spec) all.listed.items in
     let task = task_data spec.task (run_data all.breaking) (boolean (is_none all.breaking)) in
-    next spent (has_float task || false) (list_is (filter (can_be_spent all.listed.items) (range_with_len 0 (processes spec)))) (last task (task_is spec.task (run_data all.breaking) (boolean (is_none all.breaking)) (run_is all.breaking) refl))
+    next spent (has_float task || false) (numbers_are (filter (can_be_spent all.listed.items) (range_with_len 0 (processes spec)))) (last task (task_is spec.task (run_data all.breaking) (boolean (is_none all.breaking)) (run_is all.breaking) refl))
 
 pub unfinished_is : (spec : RoomSpec) (crashes limit : ℕ) → has_float (unfinished_data spec crashes limit) ≡ false
 unfinished_is spec crashes limit = last (task_data spec.task null null) (task_is spec.task null null refl refl)
 
 room_vectors_are : (spec : RoomSpec) (limit : ℕ) (values : List ℕ) (kept count : Data) → has_float kept ≡ false → has_float count ≡ false → has_float (room_vectors_data spec limit values kept count) ≡ false
 room_vectors_are spec limit values kept count of_kept of_count =
-    next kept (has_float (list_data values) || (has_float count || false)) of_kept (next (list_data values) (has_float count || false) (list_is values) (last count of_count))
+    next kept (has_float (numbers_data values) || (has_float count || false)) of_kept (next (numbers_data values) (has_float count || false) (numbers_are values) (last count of_count))
 
 pub vectors_are : (spec : RoomSpec) (limit : ℕ) (values : List ℕ) (kept count : ℕ) → has_float (vectors_data spec limit values kept count) ≡ false
 vectors_are spec limit values kept count = room_vectors_are spec limit values (number_data kept) (number_data count) refl refl

@@ -1,13 +1,9 @@
 mod AllListed
-mod AllVectors
 mod Answering
 mod Counting
 mod Floats
 mod JudgingVectors
 mod Ordering
-mod OtherInputs
-mod ReadingBlocks
-mod ReadingValues
 mod Spending
 mod WorkedVectors
 mod Both

@@ -1,5 +1,5 @@
 -- What is written of a room whose task is judged with all vectors of some values in place of its inputs.
-use Rattle.std.specs.Prelude.{◌≡◌, ◌⊎◌, ◌<◌, ◌≤◌, ℕ, ◌+◌, ◌==◌, Bool, false, List, [], ◌∷◌, ◌++◌, if◌then◌else◌}
+use Rattle.std.specs.Prelude.{◌≡◌, ◌⊎◌, ◌<◌, ◌≤◌, ℕ, ◌==◌, Bool, false, List, ◌++◌}
 use Rattle.std.specs.List.{concat}
 use Rattle.room_spec.specs.Rooms.{RoomSpec, processes}
 use Rattle.run_search.specs.declared.judging.Judgement.{Judgement}
@@ -7,7 +7,8 @@ use Rattle.run_search.specs.Judging.{AreTooManyKept, IsJudged}
 use Rattle.view_outcomes.specs.declared.search.Search.{Search}
 use Rattle.view_outcomes.specs.Judgements.{IsTasklessText, is_kept}
 use Rattle.view_outcomes.specs.Shown.{too_many_in, vector_in, vector_unjudged_in, vectors_in}
-use Rattle.view_outcomes.specs.Vectors.{block_with, most_vectors, vector_count, vectors, with_inputs}
+use Rattle.input_vectors.specs.Judged.{AreVectorTexts}
+use Rattle.input_vectors.specs.Vectors.{block_with, most_vectors, vector_count, vectors, with_inputs}
 
 -- The text says that each run of the room with these inputs keeps its task, and search many nodes stand for the states of all runs; or that one breaks it.
 pub record IsVectorJudged (search : Search) (spec : RoomSpec) (block : List ℕ) (inputs : List ℕ) (kept : Bool) (text : List ℕ) : Type 0 where
@@ -26,29 +27,12 @@ pub record IsVectorUnjudged (search : Search) (spec : RoomSpec) (inputs : List �
 abbrev pub IsVectorText : Search → RoomSpec → List ℕ → List ℕ → Bool → List ℕ → Type 0
 IsVectorText search spec block inputs kept text = IsVectorJudged search spec block inputs kept text ⊎ IsVectorUnjudged search spec inputs kept text
 
-abbrev pub one_if : Bool → ℕ
-one_if kept = if kept then 1 else 0
-
--- a text for each vector, in order; and with search many of them each run keeps the task
-abbrev pub AreVectorTexts : Search → RoomSpec → List ℕ → List (List ℕ) → ℕ → List (List ℕ) → Type 0
-AreVectorTexts search spec block [] kept [] = kept ≡ 0
-AreVectorTexts search spec block (inputs ∷ all) kept (text ∷ texts) =
-    (one : Bool) × (others : ℕ) × IsVectorText search spec block inputs one text × AreVectorTexts search spec block all others texts × (kept ≡ one_if one + others)
-AreVectorTexts search spec block [] kept (text ∷ texts) = ⊥
-AreVectorTexts search spec block (inputs ∷ all) kept [] = ⊥
-
--- the texts of these vectors were added
-pub record AddsVectors (search : Search) (spec : RoomSpec) (block : List ℕ) (all : List (List ℕ)) (kept : ℕ) (before after : List ℕ) : Type 0 where
-  pub texts : List (List ℕ)
-  pub each : AreVectorTexts search spec block all kept texts
-  pub after_is : after ≡ before ++ concat texts
-
 -- A text for each vector of these values, and a line that says with search many each run keeps the task. All is well if it is with each.
 pub record IsVectorsText (search : Search) (values : List ℕ) (spec : RoomSpec) (block : List ℕ) (well : Bool) (text : List ℕ) : Type 0 where
   pub few : vector_count values (processes spec) ≤ most_vectors
   pub kept : ℕ
   pub texts : List (List ℕ)
-  pub each : AreVectorTexts search spec block (vectors values (processes spec)) kept texts
+  pub each : AreVectorTexts (IsVectorText search spec block) (vectors values (processes spec)) kept texts
   pub text_is : text ≡ concat texts ++ vectors_in search.form spec search.nodes values kept (vector_count values (processes spec))
   pub well_is : well ≡ (kept == vector_count values (processes spec))
 

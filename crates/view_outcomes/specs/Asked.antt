@@ -1,7 +1,7 @@
 -- What is asked of each room.
 use Rattle.std.specs.Prelude.{◌≡◌, ℕ, Bool, true, false, List, Option, Some, None, Ok}
 use Rattle.decision_tasks.specs.Tasks.{task_in}
-use Rattle.view_outcomes.specs.Values.{values_in}
+use Rattle.input_vectors.specs.Values.{values_in}
 use Rattle.view_outcomes.specs.declared.search.Asked.{Asked}
 use Rattle.view_outcomes.specs.declared.search.Asked.TheVariants.{Outcomes, First, Outcome, Task, Inputs, Keeps}
 

@@ -4,7 +4,7 @@ use Rattle.std.specs.List.{filter, range_with_len}
 use Rattle.std.specs.Global.{Vec}
 use Rattle.serde_json.specs.Data.{Data, array, boolean, member, no_members, null, object, string}
 use Rattle.serde_json.specs.View.{items_of}
-use Rattle.json_lines.specs.Values.{events_data, number_data}
+use Rattle.json_lines.specs.Values.{events_data, number_data, numbers_data}
 use Rattle.room_spec.specs.Rooms.{RoomSpec, processes}
 use Rattle.transcript.specs.declared.event.Event.{Event}
 use Rattle.run_search.specs.declared.ended.Ended.{Ended}
@@ -17,10 +17,6 @@ use Rattle.decision_tasks.specs.declared.judging.DecisionJudgement.TheVariants a
 use Rattle.view_outcomes.specs.declared.listing.AllOutcomes.{AllOutcomes}
 use Rattle.view_outcomes.specs.declared.listing.Listed.{Listed}
 use Rattle.view_outcomes.specs.Counts.{can_be_spent, most_values}
-
--- numbers, in order
-abbrev pub list_data : List ℕ → Data
-list_data numbers = array (items_of (map number_data numbers))
 
 -- ---- one outcome
 
@@ -61,7 +57,7 @@ task_data (Some most) broken kept = object (member (codes "allows") (number_data
 -- the room, its inputs, and what is said of its task: after how many nodes that stand for the states of all runs
 abbrev pub room_task_data : RoomSpec → ℕ → Data → Data → Data → Data
 room_task_data spec limit nodes broken kept =
-    object (member (codes "inputs") (list_data spec.inputs) (member (codes "limit") (number_data limit) (member (codes "nodes") nodes (member (codes "room") (string spec.name)
+    object (member (codes "inputs") (numbers_data spec.inputs) (member (codes "limit") (number_data limit) (member (codes "nodes") nodes (member (codes "room") (string spec.name)
     (member (codes "task") (task_data spec.task broken kept) no_members)))))
 
 -- a run that breaks a task, unless runs are left out
@@ -89,7 +85,7 @@ room_data spec crashes limit complete values nodes count spent task =
 
 -- the processes that can be spent, of the first n
 abbrev pub spent_data : ℕ → List Listed → Data
-spent_data n all = list_data (filter (can_be_spent all) (range_with_len 0 n))
+spent_data n all = numbers_data (filter (can_be_spent all) (range_with_len 0 n))
 
 abbrev pub found_data : RoomSpec → ℕ → ℕ → AllOutcomes → Data
 found_data spec crashes limit all =
@@ -105,7 +101,7 @@ unfinished_data spec crashes limit = room_data spec crashes limit false null nul
 -- for how many of how many vectors each run keeps the task; `null` for both if they are too many
 abbrev pub room_vectors_data : RoomSpec → ℕ → List ℕ → Data → Data → Data
 room_vectors_data spec limit values kept count =
-    object (member (codes "kept") kept (member (codes "limit") (number_data limit) (member (codes "room") (string spec.name) (member (codes "values") (list_data values) (member (codes "vectors") count no_members)))))
+    object (member (codes "kept") kept (member (codes "limit") (number_data limit) (member (codes "room") (string spec.name) (member (codes "values") (numbers_data values) (member (codes "vectors") count no_members)))))
 
 abbrev pub vectors_data : RoomSpec → ℕ → List ℕ → ℕ → ℕ → Data
 vectors_data spec limit values kept count = room_vectors_data spec limit values (number_data kept) (number_data count)

@@ -11,6 +11,4 @@ pub mod Listing
 pub mod Rooms
 pub mod Shown
 pub mod Texts
-pub mod Values
-pub mod Vectors
 pub mod VectorTexts

@@ -15,7 +15,8 @@ use Rattle.view_outcomes.specs.Json.{alone_data, decisions_data, found_data, jud
 use Rattle.view_outcomes.specs.Texts.{advice, alone_text, common_text, head_line, judgement_text, more_line, outcome_text, taskless_line, unfinished_line, unjudged_text}
 use Rattle.view_outcomes.specs.Listing.{chosen}
 use Rattle.view_outcomes.specs.KeptTexts.{kept_text, unsearched_text}
-use Rattle.view_outcomes.specs.VectorTexts.{too_many_line, vector_text, vector_unjudged_line, vectors_line}
+use Rattle.input_vectors.specs.Lines.{too_many_line}
+use Rattle.view_outcomes.specs.VectorTexts.{vector_text, vector_unjudged_line, kept_in_runs}
 
 -- ---- all outcomes
 
@@ -92,7 +93,7 @@ vector_unjudged_in Text spec inputs limit = vector_unjudged_line spec.name input
 vector_unjudged_in Json spec inputs limit = json_line (unjudged_data spec limit)
 
 abbrev pub vectors_in : Form → RoomSpec → ℕ → List ℕ → ℕ → ℕ → List ℕ
-vectors_in Text spec limit values kept count = vectors_line spec.name kept count
+vectors_in Text spec limit values kept count = kept_in_runs spec.name kept count
 vectors_in Json spec limit values kept count = json_line (vectors_data spec limit values kept count)
 
 abbrev pub too_many_in : Form → RoomSpec → ℕ → List ℕ → List ℕ

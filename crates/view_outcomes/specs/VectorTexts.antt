@@ -1,14 +1,10 @@
 -- What is written of a room whose task is judged with many vectors of inputs.
 use Rattle.std.specs.Prelude.{ℕ, Bool, true, false, List, ◌∷◌, ◌++◌, codes, decimal}
-use Rattle.io_text.specs.Numbers.{numbers_text}
+use Rattle.input_vectors.specs.Lines.{vector_words, vectors_line}
 use Rattle.transcript.specs.declared.event.Event.{Event}
 use Rattle.run_search.specs.declared.judging.Judgement.{Judgement}
 use Rattle.run_search.specs.declared.judging.Judgement.TheVariants.{Kept, Broken}
 use Rattle.view_outcomes.specs.Texts.{advice, transcript_text, unfinished_line}
-
--- what each line of a vector begins with: the room's name and the vector
-abbrev pub vector_words : List ℕ → List ℕ → List ℕ
-vector_words name inputs = (name ++ codes " inputs") ++ numbers_text inputs
 
 abbrev pub kept_words : ℕ → List ℕ
 kept_words nodes = codes " task holds in every run:" ++ ((32 ∷ decimal nodes) ++ codes " nodes searched\n")
@@ -31,8 +27,5 @@ abbrev pub vector_unjudged_line : List ℕ → List ℕ → ℕ → List ℕ
 vector_unjudged_line name inputs limit = vector_words name inputs ++ (codes " task holds so far, " ++ unfinished_line limit advice)
 
 -- for how many of how many vectors each run keeps the task
-abbrev pub vectors_line : List ℕ → ℕ → ℕ → List ℕ
-vectors_line name kept count = (name ++ codes " task holds in every run for") ++ ((32 ∷ decimal kept) ++ (codes " of" ++ ((32 ∷ decimal count) ++ codes " vectors of inputs\n")))
-
-abbrev pub too_many_line : List ℕ → ℕ → List ℕ
-too_many_line name values = (name ++ codes " has more than 65536 vectors of") ++ ((32 ∷ decimal values) ++ codes " values: none is searched; give fewer values, or a room of fewer processes\n")
+abbrev pub kept_in_runs : List ℕ → ℕ → ℕ → List ℕ
+kept_in_runs name kept count = vectors_line name (codes " task holds in every run for") kept count

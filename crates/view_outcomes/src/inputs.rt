@@ -2,14 +2,14 @@
 ghost use Rattle.std.specs.Prelude.{◌≡◌, ◌++◌, IfOk, IsSome, ℕ, List, length};
 ghost use Rattle.room_spec.specs.Grammar.{IsBlock};
 ghost use Rattle.room_spec.specs.Rooms.{processes};
-ghost use Rattle.view_outcomes.specs.AllInputs.{AddsVectors, IsInputsText, IsVectorText};
-ghost use Rattle.view_outcomes.specs.Vectors.{vectors};
+ghost use Rattle.input_vectors.specs.Judged.{AddsVectors};
+ghost use Rattle.input_vectors.specs.Vectors.{vectors};
+ghost use Rattle.view_outcomes.specs.AllInputs.{IsInputsText, IsVectorText};
 
-use crate::block::room_with;
 use crate::judging::is_kept;
 use crate::search::SearchedRoom;
 use crate::shown::{show_taskless, show_too_many, show_vector, show_vector_unjudged, show_vectors};
-use crate::vectors::{all_vectors, count_if_few};
+use input_vectors::{all_vectors, count_if_few, room_with};
 use io_text::Text;
 use run_search::{Progress, SearchFault, judge_task};
 use std::alloc::AllocError;
@@ -47,7 +47,7 @@ fn judge_vectors<P: Progress>(
 ) -> Result<usize, AllocError>
     requires block { IsBlock room.now.block.now room.now.spec.now (length room.now.block.now) }
     requires task { IsSome room.now.spec.now.task }
-    ensures { IfOk result (λ kept. AddsVectors room.now.search.now room.now.spec.now room.now.block.now (vectors values.now (processes room.now.spec.now)) kept output.old output.new) }
+    ensures { IfOk result (λ kept. AddsVectors (IsVectorText room.now.search.now room.now.spec.now room.now.block.now) (vectors values.now (processes room.now.spec.now)) kept output.old output.new) }
 {
     let all = all_vectors(room.alloc, values, room.spec.n())?;
     let mut kept = 0;

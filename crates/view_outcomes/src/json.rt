@@ -4,15 +4,16 @@ ghost use Rattle.std.specs.List.{filter};
 ghost use Rattle.serde_json.specs.Data.{boolean, null};
 ghost use Rattle.serde_json.specs.View.{view};
 ghost use Rattle.json_lines.specs.Lines.{json_line};
-ghost use Rattle.json_lines.specs.Values.{number_data};
+ghost use Rattle.json_lines.specs.Values.{number_data, numbers_data};
 ghost use Rattle.view_outcomes.specs.Counts.{can_be_spent};
 ghost use Rattle.view_outcomes.specs.Listing.{chosen};
-ghost use Rattle.view_outcomes.specs.Json.{alone_data, break_data, broken_unless, decisions_data, end_data, ends_data, found_data, judgement_data, list_data, none_data, outcome_data, room_decisions_data, room_task_data, room_vectors_data, run_data, spent_data, task_data, too_many_data, unfinished_data, unjudged_data, unsearched_data, vectors_data, verdict_data};
+ghost use Rattle.view_outcomes.specs.Json.{alone_data, break_data, broken_unless, decisions_data, end_data, ends_data, found_data, judgement_data, none_data, outcome_data, room_decisions_data, room_task_data, room_vectors_data, run_data, spent_data, task_data, too_many_data, unfinished_data, unjudged_data, unsearched_data, vectors_data, verdict_data};
 
 use crate::counts::{can_be_spent, most_values};
 use crate::listing::{AllOutcomes, Listed, chosen};
 use crate::search::SearchedRoom;
 use decision_tasks::{Break, DecisionJudgement};
+use input_vectors::values_value;
 use io_text::Text;
 use json_lines::{events_value, write_line};
 use room_spec::Spec;
@@ -310,7 +311,7 @@ fn room_task_value(
 
 /// The inputs of a room's processes, in order.
 fn inputs_value(alloc: Global, spec: &Spec) -> Result<Value, AllocError>
-    ensures { IfOk result (λ value. view value ≡ list_data spec.now.inputs) }
+    ensures { IfOk result (λ value. view value ≡ numbers_data spec.now.inputs) }
 {
     let mut values = Vec::new(alloc);
     for process in 0..spec.n() {
@@ -378,17 +379,6 @@ fn room_vectors_value(
     let name = spec.name().as_str();
     let values = values_value(alloc, values)?;
     json!(in alloc; {"kept": kept, "limit": limit, "room": name, "values": values, "vectors": count})
-}
-
-/// Values, in order.
-fn values_value(alloc: Global, numbers: &[u32]) -> Result<Value, AllocError>
-    ensures { IfOk result (λ value. view value ≡ list_data numbers.now) }
-{
-    let mut values = Vec::new(alloc);
-    for number in numbers {
-        values.push(Value::from(*number))?;
-    }
-    Ok(Value::Array(values))
 }
 
 // ---- a task of one's own

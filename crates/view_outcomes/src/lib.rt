@@ -2,7 +2,6 @@
 #![tactic(auto)]
 
 mod alone_text;
-mod block;
 mod blocks;
 mod counts;
 mod inputs;
@@ -10,16 +9,12 @@ mod json;
 mod judging;
 mod keeping;
 mod kept_text;
-pub mod laws;
 mod listing;
 mod rooms;
 mod search;
 mod shown;
 mod text;
-mod values;
 mod vector_text;
-mod vectors;
 
 pub use blocks::search_blocks;
 pub use search::{Asked, Form, Search};
-pub use values::{MAX_VALUES, Values, ValuesFault, read_values};

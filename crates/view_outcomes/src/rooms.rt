@@ -12,9 +12,10 @@ use crate::keeping::judge_both;
 use crate::listing::{find_all, find_listed, has_outcome};
 use crate::search::{Asked, Search, SearchedRoom};
 use crate::shown::{show_alone, show_found, show_head, show_unfinished, show_unlisted};
+use input_vectors::room_of;
 use io_text::Text;
 use room_files::BlockList;
-use room_spec::{Spec, read_block};
+use room_spec::Spec;
 use run_search::{Progress, SearchFault};
 use std::alloc::{AllocError, Global};
 
@@ -57,18 +58,6 @@ fn write_room<P: Progress>(
         search,
     };
     answer(&room, output, progress)
-}
-
-/// The room that a block says.
-fn room_of(alloc: Global, block: &[u8]) -> Result<Spec, AllocError>
-    requires { (spec : RoomSpec) × (block_in block.now ≡ Ok (spec, length block.now)) }
-    ensures says { IfOk result (λ spec. block_in block.now ≡ Ok (spec, length block.now)) }
-    ensures block { IfOk result (λ spec. IsBlock block.now spec (length block.now)) }
-{
-    match read_block(alloc, block) {
-        Ok((spec, _)) => Ok(spec),
-        Err(_) => Err(AllocError), // the block is valid, so an allocation failed
-    }
 }
 
 /// Writes what is asked for of a room.

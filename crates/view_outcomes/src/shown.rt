@@ -17,8 +17,9 @@ use crate::text::{
     write_common, write_head, write_judgement, write_more, write_outcome, write_taskless,
     write_unfinished, write_unjudged,
 };
-use crate::vector_text::{write_too_many, write_vector, write_vector_unjudged, write_vectors_line};
+use crate::vector_text::{write_kept_in_runs, write_vector, write_vector_unjudged};
 use decision_tasks::DecisionJudgement;
+use input_vectors::write_too_many;
 use io_text::Text;
 use run_search::Judgement;
 use std::alloc::AllocError;
@@ -242,7 +243,7 @@ pub fn show_vectors(
     match room.search.form {
         Form::Text => {
             let name = room.spec.name().as_str().as_bytes();
-            write_vectors_line(output, name, kept, count)
+            write_kept_in_runs(output, name, kept, count)
         }
         Form::Json => write_vectors_object(room, output, values, kept, count),
     }

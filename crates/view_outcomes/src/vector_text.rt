@@ -1,10 +1,10 @@
 //! How vectors of inputs are judged, as text.
-ghost use Rattle.std.specs.Prelude.{◌≡◌, ◌∷◌, ◌++◌, OnOk, codes, decimal};
-ghost use Rattle.view_outcomes.specs.VectorTexts.{broken_words, kept_words, too_many_line, vector_text, vector_unjudged_line, vector_words, vectors_line, verdict_words};
+ghost use Rattle.std.specs.Prelude.{◌≡◌, ◌++◌, OnOk};
+ghost use Rattle.view_outcomes.specs.VectorTexts.{broken_words, kept_in_runs, kept_words, vector_text, vector_unjudged_line, verdict_words};
 
-use crate::block::put_inputs;
 use crate::search::SearchedRoom;
 use crate::text::{write_transcript, write_unfinished};
+use input_vectors::{write_vector_words, write_vectors_line};
 use io_text::Text;
 use run_search::Judgement;
 use std::alloc::AllocError;
@@ -22,14 +22,6 @@ pub fn write_vector(
     let name = room.spec.name().as_str().as_bytes();
     write_vector_words(output, name, inputs)?;
     write_verdict(output, name, room.block, room.search.brief, judgement)
-}
-
-/// Writes what the line of a vector begins with.
-fn write_vector_words(output: &mut Text, name: &[u8], inputs: &[u32]) -> Result<(), AllocError>
-    ensures { OnOk result (output.new ≡ output.old ++ vector_words name.now inputs.now) }
-{
-    output.put_two(name, b" inputs")?;
-    put_inputs(output, inputs)
 }
 
 /// Writes the end of that line, and a run that breaks the task unless `brief`.
@@ -93,32 +85,13 @@ pub fn write_vector_unjudged(
 }
 
 /// Writes for how many of how many vectors each run keeps the task.
-pub fn write_vectors_line(
+pub fn write_kept_in_runs(
     output: &mut Text,
     name: &[u8],
     kept: usize,
     count: usize,
 ) -> Result<(), AllocError>
-    ensures { OnOk result (output.new ≡ output.old ++ vectors_line name.now kept count) }
+    ensures { OnOk result (output.new ≡ output.old ++ kept_in_runs name.now kept count) }
 {
-    output.put_two(name, b" task holds in every run for")?;
-    output.put_number(kept as u64)?;
-    write_of(output, count)
-}
-
-fn write_of(output: &mut Text, count: usize) -> Result<(), AllocError>
-    ensures { OnOk result (output.new ≡ output.old ++ (codes " of" ++ ((32 ∷ decimal count) ++ codes " vectors of inputs\n"))) }
-{
-    output.put(b" of")?;
-    output.put_number(count as u64)?;
-    output.put(b" vectors of inputs\n")
-}
-
-/// Writes that there are more vectors of this number of values than a room is judged with.
-pub fn write_too_many(output: &mut Text, name: &[u8], values: usize) -> Result<(), AllocError>
-    ensures { OnOk result (output.new ≡ output.old ++ too_many_line name.now values) }
-{
-    output.put_two(name, b" has more than 65536 vectors of")?;
-    output.put_number(values as u64)?;
-    output.put(b" values: none is searched; give fewer values, or a room of fewer processes\n")
+    write_vectors_line(output, name, b" task holds in every run for", kept, count)
 }

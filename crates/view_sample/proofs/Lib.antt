@@ -8,6 +8,8 @@ mod JsonNumbers
 mod Keeping
 mod KeptTexts
 mod Leading
+mod JudgedInputs
+mod RoomByRoom
 mod RoomTexts
 mod ScriptLines
 mod Taking

@@ -1,21 +1,18 @@
 -- What is written of rooms whose sampled histories are judged by a task of one's own.
-use Rattle.std.specs.Prelude.{◌≡◌, ℕ, ◌==◌, ◌&&◌, Bool, true, List, [], ◌∷◌, ◌++◌, length, Option, Some, None, is_none, Ok, codes, if◌then◌else◌}
-use Rattle.std.specs.List.{concat}
+use Rattle.std.specs.Prelude.{◌≡◌, ℕ, Bool, List, ◌++◌, length, Option, Some, None, is_none, Ok, codes, if◌then◌else◌}
 use Rattle.serde_json.specs.Data.{Data, member, no_members, null, number, object, string, unsigned}
 use Rattle.json_lines.specs.Lines.{json_line}
 use Rattle.protocol_lang.specs.Trees.{Tree}
 use Rattle.room_spec.specs.Blocks.{block_in}
 use Rattle.room_spec.specs.Rooms.{RoomSpec}
-use Rattle.room_files.specs.Blocks.{Setup}
 use Rattle.room_files.specs.Inputs.{all_blocks}
-use Rattle.room_files.specs.Verdicts.{outcome_if}
 use Rattle.room_files.specs.declared.outcome.Outcome.{Outcome}
 use Rattle.room_sample.specs.declared.sampling.Plan.{Plan}
 use Rattle.sample_breaks.specs.Breaks.{AreBreaks}
 use Rattle.sample_breaks.specs.declared.breaks.Breaks.{Breaks}
 use Rattle.sample_breaks.specs.declared.breaks.Broken.{Broken}
+use Rattle.view_sample.specs.EachRoom.{IsRoomsOutput}
 use Rattle.view_sample.specs.Json.{schedule_unless}
-use Rattle.view_sample.specs.Sample.{head_of, is_for_people, last_of}
 use Rattle.view_sample.specs.Texts.{number_line, number_words, script_unless}
 
 -- ---- in words
@@ -68,25 +65,6 @@ pub record IsBreaksText (lines : List Tree) (plan : Plan) (spec : RoomSpec) (kep
 
 -- ---- all rooms
 
-abbrev pub AreBreaksTexts : List Tree → Plan → List RoomSpec → Bool → List (List ℕ) → Type 0
-AreBreaksTexts lines plan [] kept [] = kept ≡ true
-AreBreaksTexts lines plan (spec ∷ specs) kept (text ∷ texts) = (one others : Bool) × IsBreaksText lines plan spec one text × AreBreaksTexts lines plan specs others texts × (kept ≡ (one && others))
-AreBreaksTexts lines plan [] kept (text ∷ texts) = ⊥
-AreBreaksTexts lines plan (spec ∷ specs) kept [] = ⊥
-
--- a text for each room was added
-pub record AddsBreaks (lines : List Tree) (plan : Plan) (specs : List RoomSpec) (kept : Bool) (before after : List ℕ) : Type 0 where
-  pub texts : List (List ℕ)
-  pub each_room : AreBreaksTexts lines plan specs kept texts
-  pub after_is : after ≡ before ++ concat texts
-
 -- The lines of the refused blocks, and of each room by how many schedules its history breaks the task; or this as JSON, and nothing else. All is well if no block was refused, and no history breaks the task.
-pub record IsKeptOutput (lines : List Tree) (plan : Plan) (setup : Setup) (outcome : Outcome) (output : List ℕ) : Type 0 where
-  pub reported : List ℕ
-  pub kept : Bool
-  pub breaks : AddsBreaks lines plan setup.rooms kept (head_of (is_for_people plan) setup.refused) reported
-  pub output_is : output ≡ reported ++ last_of (is_for_people plan)
-  pub outcome_is : outcome ≡ outcome_if ((length setup.refused == 0) && kept)
-
 abbrev pub IsKeptSample : List Tree → Plan → List ℕ → Outcome → List ℕ → Type 0
-IsKeptSample lines plan input outcome output = IsKeptOutput lines plan (all_blocks input) outcome output
+IsKeptSample lines plan input outcome output = IsRoomsOutput (IsBreaksText lines plan) plan (all_blocks input) outcome output

@@ -1,4 +1,6 @@
 pub mod Counts
+pub mod EachRoom
+pub mod Inputs
 pub mod Json
 pub mod Keeping
 pub mod Leads

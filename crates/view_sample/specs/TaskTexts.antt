@@ -23,17 +23,17 @@ abbrev pub broken_line : List ℕ → Plan → ℕ → List ℕ
 broken_line name plan times = times_words name times ++ of_words plan.schedules
 
 -- with the script of one that broke it
-abbrev pub broken_text : List ℕ → List ℕ → Plan → ℕ → List Stretch → List ℕ
-broken_text name block plan times schedule = broken_line name plan times ++ script_unless plan.brief name block schedule
+abbrev pub broken_text : List ℕ → List ℕ → List ℕ → Plan → ℕ → List Stretch → List ℕ
+broken_text words name block plan times schedule = broken_line words plan times ++ script_unless plan.brief name block schedule
 
--- what is said of the task, with the script of the first schedule that broke it
-abbrev pub verdict_text : List ℕ → List ℕ → Plan → ℕ → Option Shown → List ℕ
-verdict_text name block plan times None = held_line name plan
-verdict_text name block plan times (Some one) = broken_text name block plan times one.schedule
+-- what is said of the task, with the script of the first schedule that broke it; the line begins with these words
+abbrev pub verdict_text : List ℕ → List ℕ → List ℕ → Plan → ℕ → Option Shown → List ℕ
+verdict_text words name block plan times None = held_line words plan
+verdict_text words name block plan times (Some one) = broken_text words name block plan times one.schedule
 
 -- nothing is said of a room without a task
 abbrev pub task_text : RoomSpec → List ℕ → Plan → List Counted → Option Shown → List ℕ
-task_text spec block plan outcomes broken = if is_none spec.task then [] else verdict_text spec.name block plan (times_broken spec outcomes) broken
+task_text spec block plan outcomes broken = if is_none spec.task then [] else verdict_text spec.name spec.name block plan (times_broken spec outcomes) broken
 
 -- no schedule broke the task
 abbrev pub has_held : RoomSpec → List Counted → Bool

@@ -3,7 +3,8 @@ ghost use Rattle.std.specs.Prelude.{◌≡◌, ◌≤◌, ◌++◌, ℕ, IfOk, L
 ghost use Rattle.io_text.specs.Reading.{most_bytes};
 ghost use Rattle.room_spec.specs.Blocks.{block_in};
 ghost use Rattle.room_spec.specs.Rooms.{RoomSpec};
-ghost use Rattle.view_sample.specs.Keeping.{AddsBreaks, IsBreaksText, IsKeptSample, breaks_in};
+ghost use Rattle.view_sample.specs.EachRoom.{AddsRooms};
+ghost use Rattle.view_sample.specs.Keeping.{IsBreaksText, IsKeptSample, breaks_in};
 
 use crate::kept_text::{write_breaks_object, write_breaks_text};
 use crate::sample::{head_of, write_last};
@@ -58,7 +59,7 @@ fn write_breaks<P: Progress>(
     output: &mut Text,
     progress: &mut P,
 ) -> Result<bool, AllocError>
-    ensures { IfOk result (λ kept. AddsBreaks judged.now.task.now judged.now.plan.now rooms.now.rooms kept output.old output.new) }
+    ensures { IfOk result (λ kept. AddsRooms (IsBreaksText judged.now.task.now judged.now.plan.now) rooms.now.rooms kept output.old output.new) }
 {
     let mut kept = true;
     for index in 0..rooms.len() {

@@ -2,6 +2,8 @@
 #![tactic(auto)]
 
 mod counts;
+mod inputs;
+mod inputs_text;
 mod json;
 mod kept;
 mod kept_text;
@@ -14,6 +16,7 @@ mod task_text;
 mod text;
 
 pub use counts::values_in;
+pub use inputs::{InputsPlan, sample_inputs};
 pub use json::{schedule_unless, write_outcome_line, write_outcome_lines};
 pub use kept::{KeptPlan, sample_kept};
 pub use sample::{sample_blocks, write_closing};

@@ -150,7 +150,7 @@ fn write_listed(
 {
     let plan = room.plan;
     let held = has_held(room.spec, &outcomes);
-    let broken = broken_example(room, &outcomes)?;
+    let broken = broken_example(room, &outcomes, shows_breaking(plan))?;
     let mut end = Text::new(room.alloc);
     write_end(room, &mut end, &outcomes, broken.as_ref())?;
     outcomes.sort_by_times(room.plan.from)?;
@@ -173,11 +173,14 @@ fn write_listed(
 }
 
 /// The first outcome that breaks the room's task, with a script if one is shown.
-fn broken_example(room: &Sampled<'_>, outcomes: &Tally) -> Result<Option<Example>, AllocError>
+pub(crate) fn broken_example(
+    room: &Sampled<'_>,
+    outcomes: &Tally,
+    scripts: bool,
+) -> Result<Option<Example>, AllocError>
     requires { All (CameByFirst room.now.spec.now room.now.plan.now) outcomes.now }
-    ensures { IfOk result (λ broken. IsShownIf room.now.spec.now room.now.plan.now.crashes (shows_breaking room.now.plan.now) (first_broken room.now.spec.now outcomes.now) (option_map shown_of broken)) }
+    ensures { IfOk result (λ broken. IsShownIf room.now.spec.now room.now.plan.now.crashes scripts (first_broken room.now.spec.now outcomes.now) (option_map shown_of broken)) }
 {
-    let scripts = shows_breaking(room.plan);
     let showing = Showing {
         spec: room.spec,
         plan: room.plan,

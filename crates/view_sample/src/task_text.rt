@@ -2,7 +2,8 @@
 ghost use Rattle.std.specs.Prelude.{◌≡◌, ◌≤◌, ◌++◌, OnOk, option_map};
 ghost use Rattle.std.specs.List.{sum_by};
 ghost use Rattle.room_sample.specs.Shown.{shown_of};
-ghost use Rattle.view_sample.specs.TaskTexts.{broken_line, broken_text, has_held, held_line, of_words, task_text, times_words};
+ghost use Rattle.view_sample.specs.Tasks.{times_broken};
+ghost use Rattle.view_sample.specs.TaskTexts.{broken_line, broken_text, has_held, held_line, of_words, task_text, times_words, verdict_text};
 
 use crate::sampled::Sampled;
 use crate::task::{first_broken, times_broken};
@@ -26,11 +27,26 @@ pub(crate) fn write_task(
     if room.spec.task().is_none() {
         return Ok(());
     }
+    let name = room.spec.name().as_str().as_bytes();
+    write_verdict(room, output, name, outcomes, broken)
+}
+
+/// Writes the same of a room with a task, in a line that begins with these words.
+pub(crate) fn write_verdict(
+    room: &Sampled<'_>,
+    output: &mut Text,
+    words: &[u8],
+    outcomes: &Tally,
+    broken: Option<&Example>,
+) -> Result<(), AllocError>
+    requires { sum_by (λ one. one.times) outcomes.now ≤ room.now.plan.now.schedules }
+    ensures { OnOk result (output.new ≡ output.old ++ verdict_text words.now room.now.spec.now.name room.now.block.now room.now.plan.now (times_broken room.now.spec.now outcomes.now) (option_map (λ one. shown_of one.now) broken.entry)) }
+{
     match broken {
-        None => write_held(output, room.spec.name().as_str().as_bytes(), room.plan),
+        None => write_held(output, words, room.plan),
         Some(one) => {
             let times = times_broken(room.spec, outcomes, room.plan.schedules);
-            write_broken(room, output, times, one.schedule.as_slice())
+            write_broken(room, output, words, times, one.schedule.as_slice())
         }
     }
 }
@@ -58,13 +74,14 @@ pub fn write_held(output: &mut Text, name: &[u8], plan: &Plan) -> Result<(), All
 fn write_broken(
     room: &Sampled<'_>,
     output: &mut Text,
+    words: &[u8],
     times: u32,
     schedule: &[Stretch],
 ) -> Result<(), AllocError>
-    ensures { OnOk result (output.new ≡ output.old ++ broken_text room.now.spec.now.name room.now.block.now room.now.plan.now times schedule.now) }
+    ensures { OnOk result (output.new ≡ output.old ++ broken_text words.now room.now.spec.now.name room.now.block.now room.now.plan.now times schedule.now) }
 {
     let (name, plan) = (room.spec.name().as_str().as_bytes(), room.plan);
-    write_broken_line(output, name, plan, times)?;
+    write_broken_line(output, words, plan, times)?;
     write_script_unless(output, plan.brief, name, room.block, schedule)
 }
 

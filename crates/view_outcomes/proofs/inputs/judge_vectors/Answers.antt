@@ -2,10 +2,10 @@ use Rattle.std.proofs.Common.{◌≡◌, ◌∙◌, ◌+◌, ℕ, Some, length, 
 use Rattle.std.specs.Prelude.{slice_get}
 use Rattle.std.proofs.lemmas.Option.{slice_get_read}
 use Rattle.room_spec.specs.Rooms.{processes}
-use Rattle.view_outcomes.specs.AllInputs.{one_if}
-use Rattle.view_outcomes.specs.Vectors.{entries_of, vectors}
-use Rattle.view_outcomes.proofs.AllVectors.{length_at, vector_at}
-use Rattle.view_outcomes.proofs.JudgingVectors.{one_if_small, one_vector_more}
+use Rattle.input_vectors.specs.Judged.{one_if}
+use Rattle.view_outcomes.specs.AllInputs.{IsVectorText}
+use Rattle.input_vectors.specs.Vectors.{entries_of, vectors}
+use Rattle.input_vectors.proofs.CallerLemmas.{length_at, one_if_small, one_vector_more, vector_at}
 use Rattle.view_outcomes.proofs.inputs.judge_vectors.Goals as goal
 
 pub judge_vector-requires-clause-inputs : goal.judge_vector-requires-clause-inputs
@@ -27,6 +27,6 @@ loop-index-preserved g c =
     let one : c.from-kept.result ≡ one_if c.in_ok-one.one = search rules in
     let small = one_if_small c.in_ok-one.one in (
       omega (arith, c.loop-index.invariant.0, one, small),
-      one_vector_more c.args.room.now.search.now c.args.room.now.spec.now c.args.room.now.block.now (vectors c.args.values.now n) c.loop-index.index inputs c.loop-index.kept (c.loop-index.kept + c.from-kept.result) c.in_ok-one.one c.args.output.now c.loop-index.output c.judge_vector.new.output
+      one_vector_more (IsVectorText c.args.room.now.search.now c.args.room.now.spec.now c.args.room.now.block.now) (vectors c.args.values.now n) c.loop-index.index inputs c.loop-index.kept (c.loop-index.kept + c.from-kept.result) c.in_ok-one.one c.args.output.now c.loop-index.output c.judge_vector.new.output
           there (ap (λ (k : ℕ). c.loop-index.kept + k) one) c.loop-index.invariant.1 c.in_ok-one.ensures,
     )

@@ -1,8 +1,9 @@
 use Rattle.std.proofs.Common.{◌≤◌, take}
 use Rattle.room_spec.specs.Rooms.{processes}
-use Rattle.view_outcomes.specs.AllInputs.{AddsVectors}
-use Rattle.view_outcomes.specs.Vectors.{vectors}
+use Rattle.input_vectors.specs.Judged.{AddsVectors}
+use Rattle.input_vectors.specs.Vectors.{vectors}
+use Rattle.view_outcomes.specs.AllInputs.{IsVectorText}
 use Rattle.view_outcomes.proofs.inputs.judge_vectors.Given as goal
 
 abbrev pub invariant-loop-index : goal.invariant-loop-index
-invariant-loop-index g l = (l.kept ≤ l.index) × AddsVectors l.room.search.now l.room.spec.now l.room.block.now (take l.index (vectors l.values (processes l.room.spec.now))) l.kept l.initial.output l.output
+invariant-loop-index g l = (l.kept ≤ l.index) × AddsVectors (IsVectorText l.room.search.now l.room.spec.now l.room.block.now) (take l.index (vectors l.values (processes l.room.spec.now))) l.kept l.initial.output l.output

@@ -1,0 +1,4 @@
+pub mod Lines
+pub mod Judged
+pub mod Values
+pub mod Vectors

@@ -1,6 +1,0 @@
-use Rattle.std.proofs.Common.{◌≡◌}
-use Rattle.view_outcomes.specs.Vectors.{entries_of, vectors}
-use Rattle.view_outcomes.proofs.vectors.all_vectors.Given as goal
-
-abbrev pub invariant-loop : goal.invariant-loop
-invariant-loop l = entries_of l.all.items ≡ vectors l.values l.counter
