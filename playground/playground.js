@@ -88,6 +88,13 @@ const showText = (text, buttons) => {
   at('shown').innerHTML = `<pre>${escaped(text)}</pre>`;
 };
 
+// The replies to a script. `bgsim play` refuses reductions; of a script that has one they are the lines of its trace that are no notes.
+function repliesTo(script) {
+  if (!hasReduction(script)) return view.play(script);
+  const answer = view.trace(script);
+  return { ...answer, text: answer.text.replace(/^ .*\n/gm, '') };
+}
+
 function showAnswer() {
   if (tab === 'outcomes' || tab === 'sample') {
     showFields(tab, given[tab]);
@@ -99,7 +106,7 @@ function showAnswer() {
     const answer = view.transcript(reading.script);
     showText(answerFault(answer) || answer.text, `<button type="button" data-copy="yes">copy</button>${answer.status > 1 ? '' : '<button type="button" data-edit="yes">open it as a transcript</button>'}`);
   } else {
-    const answer = isTranscript() ? view.why(paper.text) : view.play(reading.script);
+    const answer = isTranscript() ? view.why(paper.text) : repliesTo(reading.script);
     showText(answerFault(answer) || answer.text, '<button type="button" data-copy="yes">copy</button>');
   }
 }

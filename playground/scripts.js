@@ -4,11 +4,11 @@ const MOST_STEPS = 65535; // in one command `step`
 
 const withEnd = text => (text === '' || text.endsWith('\n') ? text : text + '\n');
 
-// A file of rooms as the script that opens them.
-const openingScript = rooms => withEnd(rooms).replace(/^bgsim \d+$/gm, 'open\n$&');
+// A file of rooms as the script that opens them. A block begins with `bgsim`, or that of a reduction with `reduction`.
+const openingScript = rooms => withEnd(rooms).replace(/^(?:bgsim|reduction) \d+$/gm, 'open\n$&');
 
 // The blocks of a text, as a file of rooms.
-const roomsIn = text => [...withEnd(text).matchAll(/^bgsim \d+\n[^]*?^end\n/gm)].map(found => found[0]).join('');
+const roomsIn = text => [...withEnd(text).matchAll(/^(?:bgsim|reduction) \d+\n[^]*?^end\n/gm)].map(found => found[0]).join('');
 
 // The commands of a script in order, each with its lines and the name of its room. A block after the line `open` is one command.
 function commandsOf(script) {
@@ -25,6 +25,8 @@ function commandsOf(script) {
   }
   return commands;
 }
+
+const hasReduction = script => commandsOf(script).some(({ lines }) => lines[0] === 'open' && lines[1] === 'reduction 1');
 
 // Whether the last block has no line `end`, so that whatever is written after it belongs to it.
 const isOpenEnded = script => commandsOf(script).some(({ lines }) => lines[0] === 'open' && lines.at(-1) !== 'end');

@@ -41,6 +41,10 @@ function callInWorker(calls, use) {
   return { stop };
 }
 
+// A line that says of which room, or of a reduction from which inputs, the lines after it are.
+const beginsRoom = line => /^\S+ (?:outcomes|sample|from the inputs) /.test(line);
+const saysInputs = line => / from the inputs [\d ]+:$/.test(line);
+
 // What a search answers, in parts: lines, and a run that shows what they say; or only lines.
 function partsOf(answer) {
   const isOfRun = line => /^(?:events|(?:step|crash|settle|report) \S.*|\S+ \d+ (?:write|snap|decide) .*)$/.test(line);
@@ -60,6 +64,7 @@ function partsOf(answer) {
     } else if (lines[begin] === '') {
       finish('');
     } else {
+      if (beginsRoom(lines[begin]) && !said.every(saysInputs)) finish('');
       said.push(lines[begin]);
     }
   }
@@ -88,7 +93,7 @@ function answerFault({ status, line, fault, words }) {
   return '';
 }
 
-// The cards of a room: first what is said of all its outcomes, and then the outcomes.
+// The cards of a room, or of a reduction with some inputs: first what is said of all its outcomes, and then the outcomes.
 function cardsOf(parts) {
   const isOutcome = part => part.run !== '' && !part.lines.some(isBroken);
   const outcomes = parts.filter(isOutcome);
@@ -99,7 +104,7 @@ function cardsOf(parts) {
 function showCards(answer) {
   const rooms = [[]];
   for (const part of partsOf(answer.text)) {
-    if (/^\S+ (?:outcomes|sample) /.test(part.lines[0])) rooms.push([]);
+    if (beginsRoom(part.lines[0])) rooms.push([]);
     rooms.at(-1).push(part);
   }
   const incomplete = answer.status === 4 ? 'There was not enough memory for more than this.' : '';

@@ -4,19 +4,29 @@ import random
 import re
 
 from differing import answered
+from simulated import simulators_of
 
 PROTOCOLS = ("first input; else decide min;", "first input; else write mine;", "first input; when count >= n - 1 decide min; else write mine;", "first id; when round == 2 decide max; else write min + 1;")
 ROOMS = 20  # in each script
 
 
+def inputs_of(dice, count):
+    return " ".join(str(dice.choice((3, 5, 7, 9))) for _ in range(count))
+
+
 def block_of(dice, name):
-    inputs = " ".join(str(dice.choice((3, 5, 7, 9))) for _ in range(dice.randint(1, 3)))
-    return f"open\nbgsim 1\nroom {name}\ninputs {inputs}\nsimulators {dice.randint(2, 3)}\nrounds {dice.randint(1, 2)}\nturns 100\nprotocol\n{dice.choice(PROTOCOLS)}\nend\n"
+    """The block of a room, or, for a third of them on average, of a reduction."""
+    processes, simulators = dice.randint(1, 3), dice.randint(2, 3)
+    if dice.random() < 1 / 3:
+        begin, numbers = "reduction 1", f"inputs {inputs_of(dice, simulators)}\nprocesses {processes}"
+    else:
+        begin, numbers = "bgsim 1", f"inputs {inputs_of(dice, processes)}\nsimulators {simulators}"
+    return f"open\n{begin}\nroom {name}\n{numbers}\nrounds {dice.randint(1, 2)}\nturns 100\nprotocol\n{dice.choice(PROTOCOLS)}\nend\n"
 
 
 def schedule_of(dice, block):
     """Stretches of one simulator each: some up to the unsafe section of its first turn, or just before it."""
-    simulators = int(re.search(r"simulators (\d)", block)[1])
+    simulators = simulators_of(block.split("\n")[1:])
     stretches = [(dice.randrange(simulators), dice.choice((1, 2, 3, 4, 4, 5, 6, 7, 12))) for _ in range(dice.randint(4, 9))]
     return [i for i, length in stretches for _ in range(length)]
 

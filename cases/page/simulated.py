@@ -188,7 +188,9 @@ def store(now, moment):
     key, own = (moment["p"], moment["r"]), (moment["i"], moment["p"], moment["r"])
     operation, sight = moment["operation"], moment["sight"]
     value = re.match(r"store (\d+) in value", operation)
-    if value:
+    if value and moment["r"] == 0:
+        now["proposals"][own] = [value[1]]
+    elif value:
         now["values"][key] = value[1]
     if " in view(" in operation:
         old = now["proposals"].get(own) if re.search(r", word [1-9]", operation) else None
@@ -221,6 +223,8 @@ def change_level(now, moment, at):
     coming = [i for i, level in of.items() if level == 1 and (i, *key) in now["blind"]]
     if key not in now["chosen"] and standing and not coming:
         i = now["chosen"][key] = min(standing)
+        if moment["r"] == 0: # an input is no event
+            return
         row = [entry if entry == "." else now["values"][p, int(entry)] for p, entry in enumerate(now["proposals"][i, *key])]
         now["events"].append((now["read"][i, *key], moment["p"], "snap " + " ".join(row)))
 
@@ -325,7 +329,7 @@ def compare_frames(where, panel, operation, deciding):
     for row, frames in zip(panel["tables"][1], agreements):
         key = tuple(map(int, re.match(r"p(\d+) r(\d+)", row[0]).groups()))
         is_load = touches(operation, "agreement ", *key)
-        holds(f"{where}: the frames of agreement {key}", frames, [is_load or touches(operation, "level", i, *key) or (operation.startswith("store") and touches(operation, "view", i, *key)) for i in range(len(frames) - 1)] + [False])
+        holds(f"{where}: the frames of agreement {key}", frames, [is_load or touches(operation, "level", i, *key) or (operation.startswith("store") and touches(operation, "view" if key[1] else "value", i, *key)) for i in range(len(frames) - 1)] + [False])
 
 
 def has_stopped(room, i, count):
@@ -341,6 +345,17 @@ def is_said_spent(room, process, count):
     return f"useful: process {process} is spent" in notes or any(at <= count and line.endswith(f" process {process} spent") for at, line in room["said"] if at > 0)
 
 
+def simulators_of(block):
+    """How many simulators a block says: in a reduction each has an input."""
+    word = "inputs " if block[0] == "reduction 1" else "simulators "
+    numbers = next(line for line in block if line.startswith(word)).split(" ")[1:]
+    return len(numbers) if block[0] == "reduction 1" else int(numbers[0])
+
+
+def processes_of(block):
+    return int(block[3].split(" ")[1]) if block[0] == "reduction 1" else len(block[2].split(" ")[1:])
+
+
 def state_of(room, now, process, count):
     """The state by the report of the script up to this moment, with all simulators that hold the process; a process is out of rounds once that was said."""
     held = sorted(i for (q, _), of in now["levels"].items() if q == process for i, level in of.items() if level == 1 and i in now["crashed"])
@@ -350,7 +365,7 @@ def state_of(room, now, process, count):
     if state.startswith("held "):
         holds("the simulator of a report that holds a process", state, f"held {min(held)}")
         return f"held by {named(held)}"
-    simulators = int(next(line for line in room["block"] if line.startswith("simulators ")).split(" ")[1])
+    simulators = simulators_of(room["block"])
     if state == "going":
         return "no simulator left" if all(has_stopped(room, i, count) for i in range(simulators)) else "may still go on"
     return state
@@ -395,9 +410,12 @@ def hint_of(now, i, key):
     begin = f"simulator {i} in agreement ({key[0]},{key[1]}): level {now['levels'].get(key, {}).get(i, 0)}: {level}; "
     if proposal is None:
         return begin + f"simulator {i} proposes nothing yet"
+    fate = "" if chosen is None else "; it is chosen" if chosen == i else "; another one is chosen"
+    if key[1] == 0:
+        return begin + f"it proposes the input {proposal[0]}" + fate
     seen = [("no write" if entry == "." else "1 write" if entry == "1" else f"{entry} writes") + f" of process {p}" for p, entry in enumerate(proposal)]
     row = seen[0] if len(seen) == 1 else ", ".join(seen[:-1]) + " and " + seen[-1]
-    return begin + f"it proposes a snapshot with {row}" + ("" if chosen is None else "; it is chosen" if chosen == i else "; another one is chosen")
+    return begin + f"it proposes a snapshot with {row}" + fate
 
 
 def closed_by(openings, outcome):
@@ -444,7 +462,7 @@ def compare_openings(where, room, drawn, count, first, columns, simulators, is_h
     """The row of how many outcomes are open: a number where it changes, and at the first moment that is drawn."""
     openings = room["openings"]
     before = max((index for index, opening in enumerate(openings) if opening["at"] <= first), default=None)
-    y = TOP + simulators * LANE + 6 + len(room["block"][2].split(" ")[1:]) * EVENTS + 15
+    y = TOP + simulators * LANE + 6 + processes_of(room["block"]) * EVENTS + 15
     wanted = []
     for index, opening in enumerate(openings):
         is_change = first < opening["at"] <= first + columns and number_open(opening) != number_open(openings[index - 1])

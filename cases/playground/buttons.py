@@ -5,11 +5,12 @@ import random
 import re
 import tempfile
 
-from lessons import cards, choose, compare_lint, compare_search, tab
+from lessons import cards, choose, compare_answer, compare_lint, compare_picture, compare_search, tab
 from programs import answered, holds
 
 PAIR = "open\nbgsim 1\nroom pair\ninputs 7 3\nsimulators 2\nrounds 1\nturns 100\nprotocol\nfirst input;\nelse decide min;\nend\n"
 LARGE = "bgsim 1\nroom large\ninputs 1 2 3 4 5 6\nsimulators 2\nrounds 3\nturns 100\nprotocol\nfirst input;\nwhen round == 3 decide min + count;\nelse write mine + count;\nend\n"
+VOTE = "reduction 1\nroom vote\ninputs 7 3\nprocesses 2\nrounds 1\nturns 100\ntask agree 1\nprotocol\nfirst input;\nwhen count >= n - 1 decide min;\nelse write mine;\nend\n"
 WATCH = "globalThis.pressed = new Set(); addEventListener('click', event => { const one = event.target.closest('button'); if (one) pressed.add(one.id || Object.keys(one.dataset).filter(name => name !== 'simulator')[0] || one.textContent); }, true)"
 
 
@@ -129,6 +130,39 @@ def branching(page):
     page.run(f"change({{ text: {PAIR.removeprefix('open')[1:]!r}, before: null }})")
     page.click('[data-move=step][data-simulator="1"]')
     holds("the script after a move in a file of rooms", text_of(page), PAIR + "step pair 1 1\n")
+
+
+def reducing(page):
+    """A reduction in a file of rooms and in a script: what lint says of it, moves, each tab, a branch, and searches from each list of inputs that its simulators can agree on."""
+    for text in (VOTE.replace("processes 2", "processes 0"), VOTE):
+        page.run(f"tab = 'steps'; change({{ text: {text!r}, before: null }})")
+        compare_lint(page, text)
+    script = f"open\n{VOTE}"
+    for selector, line in (('[data-move=turn][data-simulator="1"]', "step vote 1 6"), ('[data-move=step][data-simulator="0"]', "step vote 0 1"), ('[data-move=crash][data-simulator="0"]', "crash vote 0")):
+        page.click(selector)
+        script += line + "\n"
+        holds(f"the script after {selector}", text_of(page), script)
+    page.click("[data-move=settle]")
+    script += "settle vote\nreport vote\n"
+    compare_answer(page, "replies", ["bgview", "live"], script)
+    compare_answer(page, "trace", ["bgview", "transcript"], script)
+    compare_picture(page, script)
+    few = ["--rooms", "--crashes", "0", "--nodes", "300"]
+    for mode, fields, options in (("outcomes", "", []), ("outcomes", "task.checked = true", ["--task"]), ("outcomes", "task.checked = false; rooms.checked = true; crashes.value = '0'; nodes.value = '300'", few), ("sample", "", [])):
+        tab(page, mode)
+        if fields:
+            page.run("; ".join(f"at('fields').{field}" for field in fields.split("; ")))
+            page.click("#fields button")
+        compare_search(page, mode, script, options)
+        said = answered(["bgview", mode, *options], VOTE).stdout
+        groups = re.findall(r"^vote (?:from the inputs .*:|outcomes rooms .*|sample .*)$", said, re.M)
+        holds(f"the first lines of the cards of {mode} {options}", page.run("[...at('shown').querySelectorAll('.cards')].map(one => one.querySelector('span').textContent)"), groups)
+    run = next(card["run"] for card in cards(page) if card["run"])
+    page.click("#shown [data-run]")
+    holds("the run that is opened", page.run("[tab, paper.text]"), ["steps", run])
+    page.run(f"change({{ text: {script!r}, before: null }}, Infinity); open(0, 6)")
+    page.click('[data-move=step][data-simulator="1"]')
+    holds("the script of a branch of a reduction", text_of(page), f"open\n{VOTE}step vote 1 7\n")
 
 
 def copying(page):
@@ -303,7 +337,7 @@ def in_sizes(page, file):
 
 def all_of(page, file):
     page.run(WATCH)
-    for part in (editing, failing, moving, branching, copying, searching, judging, answers):
+    for part in (editing, failing, moving, branching, reducing, copying, searching, judging, answers):
         part(page)
         page.holds_no_fault()
     choose(page, "exercise/one-value")

@@ -5,7 +5,7 @@ import random
 import re
 import shlex
 
-from programs import Differs, answered, blocks_of, holds, moves_of, opening, rooms_of
+from programs import Differs, answered, blocks_of, holds, moves_of, opening, player, rooms_of
 
 TOP = pathlib.Path(__file__).resolve().parent.parent.parent
 PLACES = "[...at('marks').querySelectorAll('mark')].map(mark => { const place = mark.querySelector('b'); return [mark.className, place ? (place.previousSibling?.textContent.length ?? 0) : null]; })"
@@ -99,7 +99,7 @@ def cards(page):
 def compare_run(card):
     """Whether the run of an outcome ends as its card says."""
     is_script = card["run"].startswith("open\n")
-    said = answered(["bgsim", "play"] if is_script else ["bgview", "why"], card["run"])
+    said = answered(player(card["run"]) if is_script else ["bgview", "why"], card["run"])
     states = [line for line in card["lines"] if " process " in line]
     if is_script:
         found = [line for line in said.stdout.splitlines() if line in states]
@@ -144,7 +144,7 @@ def lesson(page, folder, dice):
     else:
         script = opening(text) if kind == "rooms" else text
         compare_steps(page, script, dice)
-        compare_answer(page, "replies", ["bgsim", "play"], script)
+        compare_answer(page, "replies", player(script), script)
         compare_answer(page, "trace", ["bgview", "transcript"], script)
         compare_picture(page, script)
     if mode in SEARCHED:

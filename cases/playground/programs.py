@@ -24,11 +24,23 @@ def traced(script):
 
 
 def opening(rooms):
-    return re.sub(r"^bgsim \d+$", r"open\n\g<0>", rooms, flags=re.M)
+    return re.sub(r"^(?:bgsim|reduction) \d+$", r"open\n\g<0>", rooms, flags=re.M)
 
 
 def blocks_of(text):
-    return re.findall(r"^bgsim \d+\n.*?^end$", text, re.M | re.S)
+    return re.findall(r"^(?:bgsim|reduction) \d+\n.*?^end$", text, re.M | re.S)
+
+
+def player(script):
+    """The program that gives the replies to a script: `bgsim play` refuses reductions."""
+    return ["bgview", "live"] if re.search(r"^open\nreduction 1$", script, re.M) else ["bgsim", "play"]
+
+
+def simulators_of(block):
+    """How many simulators a block says: in a reduction each has an input."""
+    if block.startswith("reduction 1\n"):
+        return len(re.search(r"^inputs (.*)$", block, re.M)[1].split(" "))
+    return int(re.search(r"^simulators (\d+)$", block, re.M)[1])
 
 
 class Room:
@@ -37,7 +49,7 @@ class Room:
     def __init__(self, block):
         self.block = block
         self.name = re.search(r"^room (\S+)$", block, re.M)[1]
-        self.simulators = int(re.search(r"^simulators (\d+)$", block, re.M)[1])
+        self.simulators = simulators_of(block)
         self.moments = []
         self.commands = []  # for each one the reply, and how many moments there were before it
         self.is_closed = False

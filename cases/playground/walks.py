@@ -9,6 +9,7 @@ BLOCKS = (
     "bgsim 1\nroom pair\ninputs 7 3\nsimulators 2\nrounds 1\nturns 100\nprotocol\nfirst input;\nelse decide min;\nend",
     "bgsim 2\nroom trio\ninputs 9 6 4\nsimulators 3\nrounds 2\nturns 100\ntask agree 1\nprotocol\nfirst input;\nwhen count >= n - 1 decide min;\nelse write mine;\nend",
     "bgsim 1\nroom few\ninputs 5 8\nsimulators 2\nrounds 2\nturns 3\nprotocol\nfirst input;\nwhen round == 2 decide max;\nelse write min + 1;\nend",
+    "reduction 1\nroom vote\ninputs 7 3\nprocesses 3\nrounds 2\nturns 100\ntask agree 1\nprotocol\nfirst input;\nwhen count >= n - 1 decide min;\nelse write mine;\nend",
 )
 SHOWN = """(() => {
   const room = runs[0].rooms[current];

@@ -3,7 +3,7 @@
 # whose proposal is chosen, the least whose proposal stands; which snapshots are agreed on, and what they show, is in the report. On standard error it
 # says in how many reports this is another order than that of the history, and which report has other events than the trace.
 NR == FNR {
-    if ($1 == "bgsim") { is_block = 1; text = "" }
+    if ($1 == "bgsim" || $1 == "reduction") { is_block = 1; text = "" }
     if ($1 == "room" && is_block) { name = $2; $2 = "NAME" }
     if (is_block) text = text $0 "\n"
     if ($1 == "end" && is_block) { block[name, (++blocks[name])] = text; is_block = 0 }

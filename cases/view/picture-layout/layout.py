@@ -3,8 +3,8 @@
 
 Nothing is outside the picture, no two squares, events or proposals overlap, and the events of each room, from left to right and from
 the first row to the last, are those of the transcript in its order, but for the last snapshot of a process whose agreement the picture
-says is not resolved. For each snapshot one proposal is framed, and shows the same processes. Prints how many squares, events and
-proposals there are.
+says is not resolved. For each snapshot one proposal is framed, and shows the same processes; in a reduction one proposed input for each
+process that does something, and it is the transcript's. Prints how many squares, events and proposals there are.
 """
 
 import re
@@ -58,9 +58,10 @@ def events_in(numbers, shapes):
     return [words for _, _, words in sorted(found)]
 
 
-def proposals_in(name, shapes, events):
-    """How many proposals of a room are framed. Each snapshot of a process is what its framed proposal says: a value where that shows writes. No other one is framed."""
-    rows = {}
+def proposals_in(name, shapes, events, inputs):
+    """How many proposals of a room are framed. Each snapshot of a process is what its framed proposal says: a value where that shows writes. No other one is framed.
+    In a reduction each process that does something has a framed input, the transcript's."""
+    rows, agreed = {}, {}
     for event in events:
         process, verb, *row = event.split(" ")
         if verb == "snap":
@@ -73,6 +74,9 @@ def proposals_in(name, shapes, events):
         is_framed, is_struck = area.get("stroke") != "none", label.get("text-decoration") is not None
         if (is_framed, is_struck) != (fate == "chosen", fate == "not chosen"):
             print(f"{name}: {hint[0].text}: framed {is_framed}, struck through {is_struck}")
+        if round_ == "0":
+            agreed.setdefault(process, []).extend(proposed.split() if is_framed else [])
+            continue
         seen = rows.get(process, [])[int(round_) - 1:int(round_)]
         if is_framed:
             framed += 1
@@ -80,7 +84,12 @@ def proposals_in(name, shapes, events):
                 print(f"{name}: {hint[0].text}, but the snapshot is {seen}")
     if framed != sum(map(len, rows.values())):
         print(f"{name}: {framed} proposals are framed, but there are {sum(map(len, rows.values()))} snapshots")
-    return framed
+    for process in {event.split(" ")[0] for event in events} if agreed else ():
+        if agreed.get(process) != [inputs[int(process)]]:
+            print(f"{name}: process {process} has the input {inputs[int(process)]}, but framed is {agreed.get(process)}")
+    if any(len(values) > 1 for values in agreed.values()):
+        print(f"{name}: two inputs of one process are framed")
+    return framed + sum(map(len, agreed.values()))
 
 
 def reported(name, shapes, drawn, wanted):
@@ -98,6 +107,11 @@ def reported(name, shapes, drawn, wanted):
     return left
 
 
+def inputs_of(transcript):
+    """The inputs of each room's processes, by its block."""
+    return {name: inputs.split(" ") for name, inputs in re.findall(r"^room (\S+)\ninputs (.*)$", transcript.split("events\n", 1)[0], re.M)}
+
+
 def events_of(transcript):
     """The events of each room: what follows the line `events`."""
     rooms = {}
@@ -111,7 +125,7 @@ def main():
     picture, transcript = (open(name).read() for name in sys.argv[1:3])
     svg = tree.fromstring(picture)
     width, height = map(int, svg.get("viewBox").split()[2:])
-    wanted = events_of(transcript)
+    wanted, inputs = events_of(transcript), inputs_of(transcript)
     squares, boxes, proposals, outside, drawn, folded, chosen = [], [], [], 0, {}, set(), 0
     for part in svg.iter(SVG + "g"):
         shapes, top = list(part), int(re.search(r"translate\(0 (\d+)\)", part.get("transform"))[1])
@@ -146,7 +160,7 @@ def main():
         events = events_in(numbers, shapes)
         if events != reported(name, shapes, events, wanted.get(name, [])):
             print(f"{name}: drawn {events}, but in the transcript {wanted.get(name)}")
-        chosen += proposals_in(name, shapes, events)
+        chosen += proposals_in(name, shapes, events, inputs.get(name))
     print(f"{len(squares)} squares, {len(boxes)} events, {chosen} of {len(proposals)} proposals chosen, {len(drawn)} rooms step by step, {len(folded)} folded")
 
 

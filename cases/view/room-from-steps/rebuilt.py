@@ -1,5 +1,5 @@
 """rebuilt.py SCRIPT ..: rebuilds the words of each room of a script from what `bgview trace --json` says of its steps, with no simulation: each step replaces the word at
-its place. What these words say, of each process, has to be what the reports of `bgsim play` say."""
+its place. What these words say, of each process, has to be what the reports of `bgsim play` say, or of a reduction, which it doesn't read, those of `bgview live`."""
 
 import copy
 import json
@@ -8,7 +8,7 @@ import sys
 
 # of each line of a turn: the kind of its place, and whether the word stays
 LINES = {
-    "write": ("value", False), "raise": ("steps", False), "snap": ("steps", True), "show": ("view", False), "enter": ("levels", False), "look": ("levels", True),
+    "propose": ("value", False), "input": ("value", True), "write": ("value", False), "raise": ("steps", False), "snap": ("steps", True), "show": ("view", False), "enter": ("levels", False), "look": ("levels", True),
     "leave": ("levels", False), "ask": ("levels", True), "view": ("view", True), "values": ("value", True), "out": ("out", False),
 }
 
@@ -135,7 +135,9 @@ def reports(played):
 def compare(script):
     """How many steps and how many reports of a script are as they have to be, and how many are not."""
     traced = subprocess.run(["bgview", "trace", "--json", script], capture_output=True, check=False).stdout
-    played = reports(subprocess.run(["bgsim", "play", script], capture_output=True, text=True, check=False).stdout)
+    with open(script, errors="replace") as file:
+        program = ["bgview", "live"] if "\nreduction 1\n" in file.read() else ["bgsim", "play"]
+    played = reports(subprocess.run([*program, script], capture_output=True, text=True, check=False).stdout)
     rooms, counts = {}, [0, 0, 0]
     for one in map(json.loads, traced.splitlines()):
         if one.get("reply") == "opened":

@@ -4,6 +4,7 @@ use Rattle.file_verdicts.specs.Check.{IsOutputFor}
 use Rattle.io_text.specs.Reading.{most_bytes}
 use Rattle.room_files.specs.Inputs.{input_says, with_code}
 use Rattle.room_files.specs.declared.outcome.Outcome.{Outcome}
+use Rattle.room_files.specs.declared.kinds.Kinds.TheVariants.{Ordinary}
 use Rattle.bgsim_console.specs.declared.fault.IoFault.{IoFault}
 use Rattle.bgsim_console.specs.declared.fault.IoFault.TheVariants.{Read, Write, TooLong, BadInput, Incomplete, Run as RunFailed, Memory}
 
@@ -15,7 +16,7 @@ IsPartFor input part = (outcome : Outcome) × (rest : List ℕ) × IsOutputFor i
 abbrev pub IsAnswer : List ℕ → Result Outcome IoFault → List ℕ → Type 0
 IsAnswer input (Ok outcome) output = (length input ≤ most_bytes) × IsOutputFor input outcome output
 IsAnswer input (Err TooLong) output = (most_bytes < length input) × (output ≡ [])
-IsAnswer input (Err (BadInput line code)) output = (length input ≤ most_bytes) × (with_code (input_says input) ≡ Err (line, code)) × (output ≡ [])
+IsAnswer input (Err (BadInput line code)) output = (length input ≤ most_bytes) × (with_code (input_says Ordinary input) ≡ Err (line, code)) × (output ≡ [])
 IsAnswer input (Err Memory) output = output ≡ []
 IsAnswer input (Err Incomplete) output = ⊥
 IsAnswer input (Err Read) output = output ≡ []

@@ -10,6 +10,7 @@ use Rattle.room_files.specs.Inputs.{all_blocks}
 use Rattle.room_files.specs.Verdicts.{outcome_if}
 use Rattle.io_text.specs.Reading.{most_bytes}
 use Rattle.room_files.specs.declared.outcome.Outcome.{Outcome}
+use Rattle.room_files.specs.declared.kinds.Kinds.TheVariants.{Ordinary}
 use Rattle.report_text.specs.ReportTexts.{report_text}
 use Rattle.bgsim_console.specs.declared.fault.IoFault.{IoFault}
 use Rattle.bgsim_console.specs.declared.fault.IoFault.TheVariants.{Read, Write, TooLong, BadInput, Incomplete, Run, Memory}
@@ -44,7 +45,7 @@ AreWorkers workers = (1 ≤ workers) × (workers ≤ 16)
 
 -- a text for an input that this number of workers runs
 abbrev pub IsRunFor : ℕ → List ℕ → Outcome → List ℕ → Type 0
-IsRunFor workers input outcome output = AreWorkers workers × IsRunText (all_blocks input) outcome output
+IsRunFor workers input outcome output = AreWorkers workers × IsRunText (all_blocks Ordinary input) outcome output
 
 -- a beginning of one
 abbrev pub IsRunPart : ℕ → List ℕ → List ℕ → Type 0

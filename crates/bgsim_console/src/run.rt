@@ -10,7 +10,7 @@ use indexmap::map::IntoValues;
 use io_text::Text;
 use report_text::{EventLines, write_room};
 use room_core::RoomCore;
-use room_files::{Answer, Setup, SpecList, outcome_if, read_all_blocks};
+use room_files::{Answer, Kinds, Setup, SpecList, outcome_if, read_all_blocks};
 use room_spec::{Name, Spec};
 use scheduler::{Course, Gate, Gathers, OpenRooms, RunFault, open_rooms, run_opened};
 use std::alloc::{AllocError, Global};
@@ -55,7 +55,7 @@ pub fn run_blocks<H: Threads + Wait + Sync, G: Gate + Sync>(
     ensures err { IfErr result (MayEndRun workers) }
 {
     let no_blocks = Setup::new(SpecList::new(alloc), Text::new(alloc));
-    let Setup { rooms, refused, .. } = read_all_blocks(alloc, no_blocks, &input)?;
+    let Setup { rooms, refused, .. } = read_all_blocks(alloc, Kinds::Ordinary, no_blocks, &input)?;
     drop(input);
     let specs = rooms.into_values();
     let outcome = outcome_if(refused.is_empty());

@@ -9,6 +9,7 @@ use Rattle.protocol_lang.specs.Trees.{Tree}
 use Rattle.room_files.specs.Faults.{FaultAt}
 use Rattle.room_files.specs.Inputs.{input_says}
 use Rattle.room_files.specs.declared.outcome.Outcome.{Outcome}
+use Rattle.room_files.specs.declared.kinds.Kinds.TheVariants.{All}
 use Rattle.script_play.specs.Script.{script_says}
 use Rattle.live_script.specs.Sessions.{IsServed}
 use Rattle.view_grade.specs.Goals.{goal_in}
@@ -216,7 +217,7 @@ IsShown (Lint json) input ending output = IsWhole (IsLintIn json input) ending o
 -- the first fault of a file of which a page is made, if it is a page with this task of one's own and these searches of what is open
 abbrev pub fault_of_page : Option (List ℕ) → Option OpenPlan → List ℕ → Option FaultAt
 fault_of_page None None input = fault_among (input ∷ [])
-fault_of_page (Some text) None input = fault_in (input_says input)
+fault_of_page (Some text) None input = fault_in (input_says All input)
 fault_of_page None (Some plan) input = fault_in (script_says input)
 fault_of_page (Some text) (Some plan) input = None
 
@@ -225,7 +226,7 @@ page_fault paging input = fault_of_page (text_of paging.keeps) paging.search inp
 
 -- the input's first fault and its line, by what the input is read as: rooms are refused one by one, so a file of rooms has no fault
 abbrev pub first_fault : Request → List ℕ → Option FaultAt
-first_fault (Why explaining) input = fault_in (input_says input)
+first_fault (Why explaining) input = fault_in (input_says All input)
 first_fault (Trace json) input = fault_in (script_says input)
 first_fault (Draw style) input = fault_in (script_says input)
 first_fault (Page paging) input = page_fault paging input

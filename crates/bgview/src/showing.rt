@@ -4,6 +4,7 @@ ghost use Rattle.io_text.specs.Reading.{most_bytes};
 ghost use Rattle.file_faults.specs.Lint.{IsLintIn};
 ghost use Rattle.room_files.specs.Blocks.{IsFaultOr};
 ghost use Rattle.room_files.specs.Inputs.{MayLackMemory, input_says};
+ghost use Rattle.room_files.specs.declared.kinds.Kinds.TheVariants.{All};
 ghost use Rattle.view_grade.specs.Goals.{goal_in};
 ghost use Rattle.script_play.specs.Script.{script_says};
 ghost use Rattle.view_outcomes.specs.Asked.{AreInputsAsked, IsTaskAsked};
@@ -143,7 +144,7 @@ fn paged_by_task(
 ) -> Result<PlayText, ViewFault>
     requires { length input.now ≤ most_bytes }
     ensures shown { IfOk result (λ shown. IsPageWith (Some text.now) None input.now shown.ending shown.output) }
-    ensures err { IfErr result (Ends (fault_in (input_says input.now)) (keeps_fault_in (task_in text.now))) }
+    ensures err { IfErr result (Ends (fault_in (input_says All input.now)) (keeps_fault_in (task_in text.now))) }
     ensures notes { AreNotesOfPage (Some text.now) None input.now result notes.new }
 {
     let task = read_task(alloc, text)?;
@@ -183,7 +184,7 @@ fn why_or_fail(
 ) -> Result<PlayText, ViewFault>
     requires { length input.now ≤ most_bytes }
     ensures shown { IfOk result (λ shown. IsWhyShown explaining.now input.now shown.ending shown.output) }
-    ensures err { IfErr result (Ends (fault_in (input_says input.now)) (keeps_fault (judged_by explaining.now))) }
+    ensures err { IfErr result (Ends (fault_in (input_says All input.now)) (keeps_fault (judged_by explaining.now))) }
     ensures notes { AreWhyNotes explaining.now.json input.now result notes.old notes.new }
 {
     let task = task_or_fail(alloc, explaining)?;
@@ -225,7 +226,7 @@ fn explained(
 ) -> Result<PlayText, ViewFault>
     requires { length input.now ≤ most_bytes }
     ensures shown { IfOk result (λ shown. IsWhole (IsExplainedBy json task.now input.now) shown.ending shown.output) }
-    ensures err { IfErr result (Ends (fault_in (input_says input.now)) None) }
+    ensures err { IfErr result (Ends (fault_in (input_says All input.now)) None) }
     ensures notes { AreWhyNotes json input.now result notes.old notes.new }
 {
     if !json {
@@ -244,7 +245,7 @@ fn explain_or_note(
 ) -> Result<PlayText, ViewFault>
     requires { length input.now ≤ most_bytes }
     ensures shown { IfOk result (λ shown. IsWhole (IsExplainedBy false task.now input.now) shown.ending shown.output) }
-    ensures err { IfErr result (Ends (fault_in (input_says input.now)) None) }
+    ensures err { IfErr result (Ends (fault_in (input_says All input.now)) None) }
     ensures notes { AreNotes input.now result notes.old notes.new }
 {
     match explained_by(alloc, false, task, input) {
@@ -266,7 +267,7 @@ fn explained_by(
 ) -> Result<Answer, InputFault>
     requires { length input.now ≤ most_bytes }
     ensures output { IfOk result (λ answer. IsExplainedBy json task.now input.now answer.outcome answer.output) }
-    ensures err { IfErr result (IsFaultOr (MayLackMemory input.now) (input_says input.now)) }
+    ensures err { IfErr result (IsFaultOr (MayLackMemory All input.now) (input_says All input.now)) }
 {
     match task {
         Some(task) => explain_kept(alloc, input, json, task),
@@ -278,7 +279,7 @@ fn explained_by(
 fn explained_alone(alloc: Global, json: bool, input: &[u8]) -> Result<Answer, InputFault>
     requires { length input.now ≤ most_bytes }
     ensures output { IfOk result (λ answer. IsExplanationIn json input.now answer.outcome answer.output) }
-    ensures err { IfErr result (IsFaultOr (MayLackMemory input.now) (input_says input.now)) }
+    ensures err { IfErr result (IsFaultOr (MayLackMemory All input.now) (input_says All input.now)) }
 {
     if json {
         return explain_json(alloc, input);

@@ -15,6 +15,7 @@ use Rattle.room_files.specs.declared.outcome.Outcome.{Outcome}
 use Rattle.room_files.specs.declared.outcome.Outcome.TheVariants.{AllWell, SomeRefused}
 use Rattle.room_files.specs.declared.fault.InputFault.{InputFault}
 use Rattle.room_files.specs.declared.fault.InputFault.TheVariants.{BadInput, Memory}
+use Rattle.room_files.specs.declared.kinds.Kinds.TheVariants.{All, Ordinary}
 use Rattle.room_sample.specs.declared.sampling.Plan.{Plan}
 use Rattle.script_play.specs.declared.replies.PlayText.{PlayText}
 use Rattle.script_play.specs.Script.{script_says}
@@ -111,7 +112,7 @@ IsNoTask task (BadValues fault) = ⊥
 
 -- a task that is not valid hides the transcript's fault
 abbrev pub IsJudgedFault : List ℕ → List ℕ → InputFault → Type 0
-IsJudgedFault transcript task (BadInput line fault) = IsOk (task_in task) × (input_says transcript ≡ Err (line, fault))
+IsJudgedFault transcript task (BadInput line fault) = IsOk (task_in task) × (input_says All transcript ≡ Err (line, fault))
 IsJudgedFault transcript task Memory = ⊤
 
 -- What is said of a transcript whose runs are judged by the task that a text says; or why there is no answer, which may also be that it says none.

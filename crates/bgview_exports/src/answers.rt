@@ -5,6 +5,7 @@ ghost use Rattle.file_faults.specs.Lint.{IsLintFor};
 ghost use Rattle.file_verdicts.specs.Check.{IsOutputFor};
 ghost use Rattle.room_files.specs.Blocks.{IsFaultOr};
 ghost use Rattle.room_files.specs.Inputs.{MayLackMemory, input_says};
+ghost use Rattle.room_files.specs.declared.kinds.Kinds.TheVariants.{All, Ordinary};
 ghost use Rattle.script_play.specs.Play.{IsPlayFor};
 ghost use Rattle.script_play.specs.Script.{script_says};
 ghost use Rattle.view_draw.specs.Drawn.{IsDrawn};
@@ -69,7 +70,7 @@ fn complete(answer: Answer) -> PlayText
 
 /// Plays a script.
 pub fn played(alloc: Global, script: &[u8]) -> Result<PlayText, NoAnswer>
-    ensures { IsAnswerTo script.now (IsPlayFor script.now) (IsFaultOr (IsOk (script_says script.now)) (script_says script.now)) result }
+    ensures { IsAnswerTo script.now (IsPlayFor Ordinary script.now) (IsFaultOr (IsOk (script_says script.now)) (script_says script.now)) result }
 {
     fits(script)?;
     Ok(play(alloc, script)?)
@@ -77,7 +78,7 @@ pub fn played(alloc: Global, script: &[u8]) -> Result<PlayText, NoAnswer>
 
 /// Judges a transcript.
 pub fn checked(alloc: Global, input: &[u8]) -> Result<PlayText, NoAnswer>
-    ensures { IsAnswerTo input.now (IsComplete (IsOutputFor input.now)) (IsFaultOr (MayLackMemory input.now) (input_says input.now)) result }
+    ensures { IsAnswerTo input.now (IsComplete (IsOutputFor input.now)) (IsFaultOr (MayLackMemory Ordinary input.now) (input_says Ordinary input.now)) result }
 {
     fits(input)?;
     Ok(complete(judge(alloc, input)?))
@@ -96,7 +97,7 @@ pub fn traced(alloc: Global, script: &[u8], json: bool) -> Result<PlayText, NoAn
 
 /// Judges a transcript, and says why a room's events are no run, as text or as JSON.
 pub fn explained(alloc: Global, input: &[u8], json: bool) -> Result<PlayText, NoAnswer>
-    ensures { IsAnswerTo input.now (IsComplete (IsExplanationIn json input.now)) (IsFaultOr (MayLackMemory input.now) (input_says input.now)) result }
+    ensures { IsAnswerTo input.now (IsComplete (IsExplanationIn json input.now)) (IsFaultOr (MayLackMemory All input.now) (input_says All input.now)) result }
 {
     fits(input)?;
     if json {

@@ -8,6 +8,7 @@ ghost use Rattle.file_faults.specs.Lint.{IsLintFor};
 ghost use Rattle.file_verdicts.specs.Check.{IsOutputFor};
 ghost use Rattle.room_files.specs.Blocks.{IsFaultOr};
 ghost use Rattle.room_files.specs.Inputs.{MayLackMemory, input_says};
+ghost use Rattle.room_files.specs.declared.kinds.Kinds.TheVariants.{All, Ordinary};
 ghost use Rattle.script_play.specs.Play.{IsPlayFor};
 ghost use Rattle.script_play.specs.Script.{script_says};
 ghost use Rattle.view_draw.specs.Drawn.{IsDrawn};
@@ -48,7 +49,7 @@ pub extern "C" fn bgview_check(
     output: &mut [u8],
     ended: &mut CallResult,
 )
-    ensures { IsGiven (IsAnswerTo transcript.now (IsComplete (IsOutputFor transcript.now)) (IsFaultOr (MayLackMemory transcript.now) (input_says transcript.now)))
+    ensures { IsGiven (IsAnswerTo transcript.now (IsComplete (IsOutputFor transcript.now)) (IsFaultOr (MayLackMemory Ordinary transcript.now) (input_says Ordinary transcript.now)))
         output.old output.new ended.new }
 {
     *ended = give(&checked(alloc, transcript), output);
@@ -62,7 +63,7 @@ pub extern "C" fn bgview_play(
     output: &mut [u8],
     ended: &mut CallResult,
 )
-    ensures { IsGiven (IsAnswerTo script.now (IsPlayFor script.now) (IsFaultOr (IsOk (script_says script.now)) (script_says script.now)))
+    ensures { IsGiven (IsAnswerTo script.now (IsPlayFor Ordinary script.now) (IsFaultOr (IsOk (script_says script.now)) (script_says script.now)))
         output.old output.new ended.new }
 {
     *ended = give(&played(alloc, script), output);
@@ -92,7 +93,7 @@ pub extern "C" fn bgview_why(
     output: &mut [u8],
     ended: &mut CallResult,
 )
-    ensures { IsGiven (IsAnswerTo transcript.now (IsComplete (IsExplanationIn json transcript.now)) (IsFaultOr (MayLackMemory transcript.now) (input_says transcript.now)))
+    ensures { IsGiven (IsAnswerTo transcript.now (IsComplete (IsExplanationIn json transcript.now)) (IsFaultOr (MayLackMemory All transcript.now) (input_says All transcript.now)))
         output.old output.new ended.new }
 {
     *ended = give(&explained(alloc, transcript, json), output);

@@ -68,6 +68,7 @@ block_said first text faults.TooWide = head_said first text faults.TooWide
 block_said first text (faults.CrashLine line) = head_said first text (faults.CrashLine line)
 block_said first text (faults.Repeated line) = head_said first text (faults.Repeated line)
 block_said first text (faults.TaskLine line) = head_said first text (faults.TaskLine line)
+block_said first text faults.Processes = head_said first text faults.Processes
 
 pub refusal_said : (first : ℕ) (text : List ℕ) (fault : BlockFault) → IsSaidAt (refusal_spot first text fault) (why_said first text fault)
 refusal_said first text (blocks.Spec fault) = block_said first text fault

@@ -1,6 +1,6 @@
 -- What the fault of a block is about.
-use Rattle.std.specs.Prelude.{ℕ, zero, suc, ◌+◌, ◌-◌, ◌==◌, ◌&&◌, ◌||◌, Bool, List, [], ◌∷◌, ◌++◌, map, min, take, drop, Option, Some, None, nat_le, codes, if◌then◌else◌}
-use Rattle.std.specs.List.{count_by}
+use Rattle.std.specs.Prelude.{ℕ, zero, suc, ◌+◌, ◌-◌, ◌==◌, ◌&&◌, ◌||◌, Bool, List, [], ◌∷◌, ◌++◌, map, min, take, drop, Option, Some, None, nat_eq, nat_le, codes, if◌then◌else◌}
+use Rattle.std.specs.List.{count_by, starts_with}
 use Rattle.std.specs.Str.{bytes_eq, str_eq_ignore_ascii_case}
 use Rattle.protocol_lang.specs.Faults.{sentence_of as protocol_sentence}
 use Rattle.protocol_lang.specs.FirstFaults.{place_of}
@@ -9,7 +9,7 @@ use Rattle.protocol_lang.specs.declared.fault.ParseFault.TheVariants.{BadToken, 
 use Rattle.room_spec.specs.Blocks.{is_protocol}
 use Rattle.room_spec.specs.Texts.{first_line, is_line_end, later_lines}
 use Rattle.room_spec.specs.declared.fault.SpecFault.{SpecFault}
-use Rattle.room_spec.specs.declared.fault.SpecFault.TheVariants.{Truncated, BadLine, BadName, BadProtocol, Inputs, Simulators, Rounds, Turns, TooWide, CrashLine, Repeated, TaskLine}
+use Rattle.room_spec.specs.declared.fault.SpecFault.TheVariants.{Truncated, BadLine, BadName, BadProtocol, Inputs, Simulators, Rounds, Turns, TooWide, CrashLine, Repeated, TaskLine, Processes}
 use Rattle.room_files.specs.Faults.{block_sentence}
 use Rattle.room_files.specs.Lines.{text_lines}
 use Rattle.room_files.specs.declared.fault.BlockFault.{BlockFault}
@@ -19,7 +19,7 @@ use Rattle.fault_text.specs.Hints.{advice, hint, letters_of, token_hints, unknow
 use Rattle.fault_text.specs.Lines.{indented, indented_all, last_line, line_at}
 use Rattle.fault_text.specs.Phrases.{fits_one, form_fault}
 use Rattle.fault_text.specs.Places.{heading, place_notes}
-use Rattle.fault_text.specs.declared.blocks.TheConstants.{END_MISSING, FIRST_WORDS, HEAD_LINES, LATER_LINES, NOT_END, WIDTHS}
+use Rattle.fault_text.specs.declared.blocks.TheConstants.{END_MISSING, FIRST_WORDS, HEAD_LINES, LATER_LINES, NOT_END, REDUCTION_WIDTHS, WIDTHS}
 use Rattle.fault_text.specs.declared.hints.TheConstants.{NO_BLOCK}
 use Rattle.fault_text.specs.declared.phrases.TheConstants.{COMMANDS}
 
@@ -32,9 +32,17 @@ later_line first count = min (first + count) 18446744073709551615
 abbrev pub is_second : List ℕ → Bool
 is_second line = bytes_eq line (codes "bgsim 2")
 
--- the form of a block's line of this number, up to 6
-abbrev pub first_form : ℕ → List ℕ
-first_form line =
+-- it is a block of a reduction: its first line begins as such a block's does
+abbrev pub is_reduction : List ℕ → Bool
+is_reduction text = starts_with nat_eq (line_at 1 text) (codes "reduction")
+
+-- version 2 and reductions have a task, in line 7
+abbrev pub may_have_task : List ℕ → Bool
+may_have_task text = is_second (line_at 1 text) || is_reduction text
+
+-- the form of the line of this number, up to 6, in an ordinary room's block
+abbrev pub room_form : ℕ → List ℕ
+room_form line =
     if line == 1 then codes "bgsim B"
     else if line == 2 then codes "room N"
     else if line == 3 then codes "inputs VW"
@@ -42,13 +50,25 @@ first_form line =
     else if line == 5 then codes "rounds S"
     else codes "turns T"
 
--- the forms of one from 7 on, in a block with which this text begins: only version 2 has a task, in line 7
+-- the same in a reduction's
+abbrev pub reduction_form : ℕ → List ℕ
+reduction_form line =
+    if line == 1 then codes "reduction 1"
+    else if line == 3 then codes "inputs VO"
+    else if line == 4 then codes "processes Q"
+    else room_form line
+
+-- the same in a block with which this text begins
+abbrev pub first_form : List ℕ → ℕ → List ℕ
+first_form text line = if is_reduction text then reduction_form line else room_form line
+
+-- the forms of one from 7 on, in a block with which this text begins
 abbrev pub later_forms : List ℕ → ℕ → List (List ℕ)
 later_forms text line =
-    if (line == 7) && is_second (line_at 1 text) then map (λ form. form.now) LATER_LINES else drop 1 (map (λ form. form.now) LATER_LINES)
+    if (line == 7) && may_have_task text then map (λ form. form.now) LATER_LINES else drop 1 (map (λ form. form.now) LATER_LINES)
 
 abbrev pub forms_at : List ℕ → ℕ → List (List ℕ)
-forms_at text line = if nat_le line 6 then first_form line ∷ [] else later_forms text line
+forms_at text line = if nat_le line 6 then first_form text line ∷ [] else later_forms text line
 
 -- the line that has the fault
 abbrev pub line_of : SpecFault → ℕ
@@ -64,6 +84,7 @@ line_of TooWide = 5
 line_of (CrashLine line) = line
 line_of (Repeated line) = line
 line_of (TaskLine line) = line
+line_of Processes = 4
 
 -- where the line belongs that hasn't its form, or with which a block begins that doesn't end, if it looks like another line
 abbrev pub other_kind : BlockFault → List ℕ → List ℕ
@@ -119,6 +140,14 @@ program_fault first text fault = fault_in first (program_of text) fault (place_o
 
 -- ---- blocks
 
+-- what takes how many bits of the step numbers
+abbrev pub widths : List ℕ → List ℕ
+widths text = if is_reduction text then REDUCTION_WIDTHS.now else WIDTHS.now
+
+-- the number of the line that says how many simulators there are; in a reduction each has an input
+abbrev pub simulators_line : List ℕ → ℕ
+simulators_line text = if is_reduction text then 3 else 4
+
 -- which simulators the room has, by the line that says how many they are
 abbrev pub crash_note : List ℕ → List ℕ
 crash_note simulators = indented (codes "the room has `" ++ (simulators ++ codes "`, which are counted from 0"))
@@ -145,12 +174,12 @@ end_note_if (Some place) = end_note place.0 place.1
 
 -- which line of a text may be meant as the last of the block with which it begins, or comes after it; the block has no line `end`
 abbrev pub end_notes : ℕ → List ℕ → List ℕ
-end_notes first text = if fits_one (first_line text) (first_form 1 ∷ []) then end_note_if (end_place (later_line first 1) (text_lines (later_lines text))) else []
+end_notes first text = if fits_one (first_line text) (first_form text 1 ∷ []) then end_note_if (end_place (later_line first 1) (text_lines (later_lines text))) else []
 
 -- besides what is said of the fault's line: how many bits step numbers take, which simulators there are, which line may be meant as the last
 abbrev pub block_notes : ℕ → List ℕ → SpecFault → List ℕ
-block_notes first text TooWide = indented WIDTHS.now
-block_notes first text (CrashLine line) = crash_note (line_at 4 text)
+block_notes first text TooWide = indented (widths text)
+block_notes first text (CrashLine line) = crash_note (line_at (simulators_line text) text)
 block_notes first text Truncated = end_notes first text
 block_notes first text fault = []
 

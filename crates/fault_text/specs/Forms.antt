@@ -5,7 +5,7 @@ use Rattle.std.specs.Option.{option_map}
 use Rattle.protocol_lang.specs.Numbers.{is_digit, number_of}
 use Rattle.room_spec.specs.Names.{is_name_byte}
 use Rattle.fault_text.specs.declared.forms.Step.{Step}
-use Rattle.fault_text.specs.declared.forms.TheConstants.{MAX_NAME, MORE_VALUES}
+use Rattle.fault_text.specs.declared.forms.TheConstants.{MAX_NAME, MORE_OWN_VALUES, MORE_VALUES}
 
 -- ---- numbers
 
@@ -28,6 +28,7 @@ range_of byte =
     else if byte == 83 then Some (1, 15)  -- S rounds
     else if byte == 84 then Some (1, 65535)  -- T turns
     else if byte == 75 then Some (1, 16)  -- K values that are agreed on
+    else if byte == 81 then Some (1, 16)  -- Q processes
     else if byte == 74 then Some (0, 7)  -- J, a simulator of a block
     else if byte == 73 then Some (0, 255)  -- I, a simulator of a command
     else if byte == 67 then Some (1, 65535)  -- C steps
@@ -78,12 +79,13 @@ more_step (suc most) entries at (first ∷ item) =
     if first == 32 then (if (item_step entries item).fits then more_step most entries (at + 1 + (item_step entries item).len) (drop (item_step entries item).len item) else record { len = at + 1 + (item_step entries item).len; fits = false })
     else record { len = at; fits = true }
 
--- N is a name, E an entry of a snapshot, W and F are up to 15 more values or entries
+-- N is a name, E an entry of a snapshot, W and F are up to 15 more values or entries, O up to 7 more values
 abbrev pub step_of : ℕ → List ℕ → Step
 step_of byte line =
     if byte == 78 then name_step line
     else if byte == 69 then entry_step line
     else if byte == 87 then more_step MORE_VALUES false 0 line
+    else if byte == 79 then more_step MORE_OWN_VALUES false 0 line
     else if byte == 70 then more_step MORE_VALUES true 0 line
     else ranged_step byte line
 

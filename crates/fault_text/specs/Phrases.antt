@@ -11,9 +11,10 @@ use Rattle.fault_text.specs.Places.{place_notes}
 abbrev pub shown_letter : ℕ → List ℕ
 shown_letter byte =
     if byte == 78 then codes "NAME"
-    else if byte == 87 then codes " V .."
+    else if byte == 87 || byte == 79 then codes " V .."
     else if byte == 70 then codes " E .."
     else if byte == 66 then codes "V"
+    else if byte == 81 then codes "N"
     else if byte == 74 then codes "I"
     else byte ∷ []
 
@@ -37,7 +38,7 @@ abbrev pub wanted : List ℕ → List ℕ
 wanted [] = codes "the end of the line"
 wanted (byte ∷ left) =
     if byte == 78 then codes "a name: 1 to 32 of a to z, 0 to 9, _ and -"
-    else if byte == 87 then codes "a number from 0 to 4294967295"
+    else if byte == 87 || byte == 79 then codes "a number from 0 to 4294967295"
     else if byte == 69 || byte == 70 then codes "a number from 0 to 4294967295, or `.`"
     else if byte == 32 then codes "a space"
     else range_words (range_of byte) (byte ∷ left)

@@ -4,7 +4,7 @@ ghost use Rattle.std.specs.Str.{str_eq_ignore_ascii_case};
 ghost use Rattle.room_spec.specs.Blocks.{is_protocol};
 ghost use Rattle.room_files.specs.Lines.{text_lines};
 ghost use Rattle.room_files.specs.declared.fault.BlockFault.TheVariants.{NameTaken};
-ghost use Rattle.fault_text.specs.Blocks.{block_fault, block_notes, choices_if, crash_note, end_note, end_notes, end_place, first_form, forms_at, head_fault, is_end_place, is_like_end, is_second, later_forms, later_line, line_ends, line_fault, line_of, other_kind, program_from, program_fault, program_of, program_place, token_fault_hints};
+ghost use Rattle.fault_text.specs.Blocks.{block_fault, block_notes, choices_if, crash_note, end_note, end_notes, end_place, first_form, forms_at, head_fault, is_end_place, is_like_end, is_reduction, is_second, later_forms, later_line, line_ends, line_fault, line_of, may_have_task, other_kind, program_from, program_fault, program_of, program_place, reduction_form, room_form, simulators_line, token_fault_hints, widths};
 ghost use Rattle.fault_text.specs.Choices.{choices_note, comparison_hint, last_rule_hint};
 ghost use Rattle.fault_text.specs.Lines.{indented, line_at};
 ghost use Rattle.fault_text.specs.Phrases.{form_fault};
@@ -28,6 +28,10 @@ pub const HEAD_LINES: usize = 16;
 /// What takes how many bits of the step numbers.
 const WIDTHS: &[u8] =
     b"M simulators and n inputs take M * n * b bits: b is 1 for one round, 2 for 2 and 3, 3 for 4 to 7, and 4 from 8 on";
+
+/// The same in a reduction.
+const REDUCTION_WIDTHS: &[u8] =
+    b"M simulators and N processes take M * N * b bits: b is 1 for one round, 2 for 2 and 3, 3 for 4 to 7, and 4 from 8 on";
 
 /// What may be used before the first snapshot.
 const FIRST_WORDS: &[u8] =
@@ -92,8 +96,8 @@ fn write_block_notes(
     ensures { OnOk result (output.new ≡ output.old ++ block_notes first text.now fault) }
 {
     match fault {
-        SpecFault::TooWide => write_indented(output, WIDTHS),
-        SpecFault::CrashLine(_) => write_crash_note(output, line_at(text, 4)),
+        SpecFault::TooWide => write_indented(output, widths(text)),
+        SpecFault::CrashLine(_) => write_crash_note(output, line_at(text, simulators_line(text))),
         SpecFault::Truncated => write_end_notes(alloc, output, first, text),
         _ => Ok(()),
     }
@@ -117,7 +121,7 @@ fn write_end_notes(
     ensures { OnOk result (output.new ≡ output.old ++ end_notes first text.now) }
 {
     let (line, later) = split_line(text);
-    if !fits_one(line, &[first_form(1)]) {
+    if !fits_one(line, &[first_form(text, 1)]) {
         return Ok(());
     }
     match end_place(later_line(first, 1), later) {
@@ -183,7 +187,7 @@ pub(crate) fn line_of(fault: SpecFault) -> usize
         SpecFault::Truncated | SpecFault::BadProtocol(_) => 1,
         SpecFault::BadName => 2,
         SpecFault::Inputs => 3,
-        SpecFault::Simulators => 4,
+        SpecFault::Simulators | SpecFault::Processes => 4,
         SpecFault::Rounds | SpecFault::TooWide => 5,
         SpecFault::Turns => 6,
         SpecFault::BadLine(line)
@@ -234,7 +238,7 @@ fn write_line_forms(
 {
     let bytes = line_at(text, line as u64);
     if line <= 6 {
-        write_form_fault(alloc, output, remark, bytes, &[first_form(line)])
+        write_form_fault(alloc, output, remark, bytes, &[first_form(text, line)])
     } else {
         write_form_fault(alloc, output, remark, bytes, later_forms(text, line))
     }
@@ -260,9 +264,30 @@ pub fn later_line(first: u64, count: u64) -> u64
     first.saturating_add(count)
 }
 
-/// The form of a block's line of this number, up to 6.
-pub(crate) fn first_form(line: usize) -> &'static [u8]
-    ensures { result.now ≡ first_form line }
+/// The form of the line of this number, up to 6, in a block with which this text begins.
+pub(crate) fn first_form(text: &[u8], line: usize) -> &'static [u8]
+    ensures { result.now ≡ first_form text.now line }
+{
+    if is_reduction(text) {
+        reduction_form(line)
+    } else {
+        room_form(line)
+    }
+}
+
+fn reduction_form(line: usize) -> &'static [u8]
+    ensures { result.now ≡ reduction_form line }
+{
+    match line {
+        1 => b"reduction 1",
+        3 => b"inputs VO",
+        4 => b"processes Q",
+        _ => room_form(line),
+    }
+}
+
+fn room_form(line: usize) -> &'static [u8]
+    ensures { result.now ≡ room_form line }
 {
     match line {
         1 => b"bgsim B",
@@ -278,10 +303,42 @@ pub(crate) fn first_form(line: usize) -> &'static [u8]
 pub(crate) fn later_forms(text: &[u8], line: usize) -> &'static [&'static [u8]]
     ensures { map (λ form. form.now) result.now ≡ later_forms text.now line }
 {
-    if line == 7 && is_second(line_at(text, 1)) {
+    if line == 7 && may_have_task(text) {
         &LATER_LINES
     } else {
         &LATER_LINES[1..]
+    }
+}
+
+/// Whether line 7 of a block may say a task: in version 2 and in a reduction.
+fn may_have_task(text: &[u8]) -> bool
+    ensures { result ≡ may_have_task text.now }
+{
+    is_second(line_at(text, 1)) || is_reduction(text)
+}
+
+/// Whether a block is meant as that of a reduction.
+fn is_reduction(text: &[u8]) -> bool
+    ensures { result ≡ is_reduction text.now }
+{
+    line_at(text, 1).starts_with(b"reduction")
+}
+
+/// The number of the line that says how many simulators there are.
+fn simulators_line(text: &[u8]) -> u64
+    ensures { result ≡ simulators_line text.now }
+{
+    if is_reduction(text) { 3 } else { 4 }
+}
+
+/// What takes how many bits of a room's step numbers.
+fn widths(text: &[u8]) -> &'static [u8]
+    ensures { result.now ≡ widths text.now }
+{
+    if is_reduction(text) {
+        REDUCTION_WIDTHS
+    } else {
+        WIDTHS
     }
 }
 

@@ -12,8 +12,11 @@ use protocol_lang::read_number;
 /// The longest name of a room.
 const MAX_NAME: usize = 32;
 
-/// The most values that may follow the first.
+/// The most values that may follow the first: one for each process.
 const MORE_VALUES: usize = 15;
+
+/// The same of a reduction's inputs, one for each simulator.
+const MORE_OWN_VALUES: usize = 7;
 
 /// What one byte of a form takes of a line: how many bytes, and whether they fit it. If not, they end where the line leaves the form.
 #[derive(Clone, Copy)]
@@ -49,6 +52,7 @@ fn take_step(byte: u8, line: &[u8]) -> Step
         b'N' => name_step(line),
         b'E' => entry_step(line),
         b'W' => more_step(MORE_VALUES, false, 0, line),
+        b'O' => more_step(MORE_OWN_VALUES, false, 0, line),
         b'F' => more_step(MORE_VALUES, true, 0, line),
         _ => ranged_step(byte, line),
     }
@@ -160,6 +164,7 @@ pub(crate) fn range_of(byte: u8) -> Option<(u64, u64)>
         b'S' => Some((1, 15)),
         b'T' => Some((1, 65535)),
         b'K' => Some((1, 16)),
+        b'Q' => Some((1, 16)),
         b'J' => Some((0, 7)),
         b'I' => Some((0, 255)),
         b'C' => Some((1, 65535)),

@@ -242,10 +242,11 @@ fn write_shown_letter(output: &mut Text, byte: u8) -> Result<(), AllocError>
 {
     match byte {
         b'N' => output.put(b"NAME"),
-        b'W' => output.put(b" V .."),
+        b'W' | b'O' => output.put(b" V .."),
         b'F' => output.put(b" E .."),
         b'B' => output.put(b"V"),
         b'J' => output.put(b"I"),
+        b'Q' => output.put(b"N"),
         _ => output.put(&[byte]),
     }
 }
@@ -257,7 +258,7 @@ fn write_wanted(output: &mut Text, left: &[u8]) -> Result<(), AllocError>
     match left {
         [] => output.put(b"the end of the line"),
         [b'N', ..] => output.put(b"a name: 1 to 32 of a to z, 0 to 9, _ and -"),
-        [b'W', ..] => output.put(b"a number from 0 to 4294967295"),
+        [b'W' | b'O', ..] => output.put(b"a number from 0 to 4294967295"),
         [b'E' | b'F', ..] => output.put(b"a number from 0 to 4294967295, or `.`"),
         [b' ', ..] => output.put(b"a space"),
         [byte, ..] => write_range_or_word(output, *byte, left),

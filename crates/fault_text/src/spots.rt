@@ -70,7 +70,7 @@ impl Spot {
         let bytes = line_at(text, line as u64);
         let what = fault.sentence();
         if line <= 6 {
-            Spot::of_form(number, what, bytes, &[first_form(line)])
+            Spot::of_form(number, what, bytes, &[first_form(text, line)])
         } else {
             Spot::of_form(number, what, bytes, later_forms(text, line))
         }

@@ -45,6 +45,7 @@ block_words blocks.TooWide = refl
 block_words (blocks.CrashLine line) = refl
 block_words (blocks.Repeated line) = refl
 block_words (blocks.TaskLine line) = refl
+block_words blocks.Processes = refl
 
 pub line_words : (fault : LineFault) → words_of (line_code fault) ≡ Some (line_sentence fault)
 unfolding line_sentence

@@ -39,6 +39,7 @@ faults =
     ∷ (19, block_sentence (blocks.CrashLine 0))
     ∷ (20, block_sentence (blocks.Repeated 0))
     ∷ (21, block_sentence (blocks.TaskLine 0))
+    ∷ (22, block_sentence blocks.Processes)
     ∷ (30, line_sentence lines.BadName)
     ∷ (31, line_sentence lines.BadWord)
     ∷ (32, line_sentence lines.BadNumber)

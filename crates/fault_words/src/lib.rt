@@ -41,6 +41,7 @@ pub fn fault_words(code: u16) -> Option<&'static str>
         19 => Some(SpecFault::CrashLine(0).sentence()),
         20 => Some(SpecFault::Repeated(0).sentence()),
         21 => Some(SpecFault::TaskLine(0).sentence()),
+        22 => Some(SpecFault::Processes.sentence()),
         30 => Some(LineFault::BadName.sentence()),
         31 => Some(LineFault::BadWord.sentence()),
         32 => Some(LineFault::BadNumber.sentence()),

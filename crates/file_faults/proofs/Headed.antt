@@ -2,7 +2,8 @@
 use Rattle.std.proofs.Common.{ℕ, ◌||◌, Bool, true, false, cond, List, [], ◌++◌, map, Option, Some, None, refl}
 use Rattle.std.specs.Prelude.{Result, Ok, Err, ◌&&◌, is_some}
 use Rattle.std.specs.Result.{is_err}
-use Rattle.room_spec.specs.Blocks.{block_in}
+use Rattle.room_files.specs.Kinds.{block_of}
+use Rattle.room_files.specs.declared.kinds.Kinds.TheVariants.{All}
 use Rattle.room_spec.specs.Rooms.{RoomSpec}
 use Rattle.room_spec.specs.Texts.{first_line, later_lines}
 use Rattle.room_spec.specs.declared.fault.SpecFault.{SpecFault}
@@ -89,7 +90,7 @@ one_headed false script known number block line read command some = line_headed 
 pub entry_headed : (script : List ℕ) (known : KnownRooms) (number : ℕ) (text : List ℕ) → IsHeaded (is_block_refused text) (entry_spot known number text) (entry_said script known number text)
 entry_headed script known number text some =
     let block = block_in_front (later_lines text) in
-    one_headed (is_open (first_line text)) script known number block (first_line text) (block_in block) (command_in (first_line text)) some
+    one_headed (is_open (first_line text)) script known number block (first_line text) (block_of All block) (command_in (first_line text)) some
 
 -- ---- events
 

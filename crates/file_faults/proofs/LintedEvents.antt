@@ -19,6 +19,7 @@ use Rattle.room_files.specs.Faults.{FaultAt, text_sentence}
 use Rattle.room_files.specs.Inputs.{blocks_in, later_events, fed_from, input_says, of_known_room, then_fed, with_fed}
 use Rattle.room_files.specs.Lines.{lines_in, text_lines}
 use Rattle.room_files.specs.declared.fault.TextFault.TheVariants.{NoRoom}
+use Rattle.room_files.specs.declared.kinds.Kinds.TheVariants.{All}
 use Rattle.fault_text.specs.Hints.{advice, hint}
 use Rattle.fault_text.specs.Lines.{indented}
 use Rattle.fault_text.specs.Places.{heading}
@@ -204,6 +205,6 @@ read_fine input (Err fault) said are = (
 )
 
 -- Nothing is said of a transcript exactly if it can be read, and none of its blocks is refused.
-pub transcript_fine : (input said : List ℕ) → AreTranscriptFaults input said → (said ≡ []) ↔ IsWhole (input_says input)
+pub transcript_fine : (input said : List ℕ) → AreTranscriptFaults input said → (said ≡ []) ↔ IsWhole (input_says All input)
 unfolding AreTranscriptFaults
-transcript_fine input said are = read_fine input (blocks_in input) said are
+transcript_fine input said are = read_fine input (blocks_in All input) said are

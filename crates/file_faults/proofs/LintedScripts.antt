@@ -6,7 +6,8 @@ use Rattle.std.proofs.lemmas.Slice.Eq.{bytes_eq-Decides}
 use Rattle.std.specs.Prelude.{Result, Ok, Err, IsOk, is_some}
 use Rattle.std.specs.List.{list_any}
 use Rattle.std.specs.Str.{bytes_eq}
-use Rattle.room_spec.specs.Blocks.{block_in}
+use Rattle.room_files.specs.Kinds.{block_of}
+use Rattle.room_files.specs.declared.kinds.Kinds.TheVariants.{All}
 use Rattle.room_spec.specs.Rooms.{RoomSpec}
 use Rattle.room_spec.specs.Texts.{fields_of, first_line, later_lines}
 use Rattle.room_spec.specs.Names.{is_name}
@@ -300,8 +301,8 @@ went (Ok entry) (Err fault) all is = absurd cc
 went (Ok entry) (Ok later) all is = record { entry = entry; later = later; first_is = refl; rest_is = refl; all_is = cc }
 
 -- a block after a line `open`
-block_agrees : (known : KnownRooms) (state : Rooms) (number first : ℕ) (block : List ℕ) (done : Done) (more : List Done) → IsDone (Open first block) done → ran_out_of_memory done ≡ false → Knows known state → Owns state (done ∷ more)
-    → Agrees known (record { rooms = rooms_after_read known.rooms (block_in block); unknown_names = known.unknown_names }) state done more (block_said known.rooms number block)
+block_agrees : (known : KnownRooms) (state : Rooms) (number first : ℕ) (block : List ℕ) (done : Done) (more : List Done) → IsDone All (Open first block) done → ran_out_of_memory done ≡ false → Knows known state → Owns state (done ∷ more)
+    → Agrees known (record { rooms = rooms_after_read known.rooms (block_of All block); unknown_names = known.unknown_names }) state done more (block_said known.rooms number block)
 block_agrees known state number first block (Replied asked reply) more is enough knows owns =
     let spec = is.0 in
     let len = is.1 in
@@ -310,7 +311,7 @@ block_agrees known state number first block (Replied asked reply) more is enough
     (begin_agrees known state number block spec len reply more knows (subst (λ (command : Command). Owns state (Replied command reply ∷ more)) is.3 owns)))
 block_agrees known state number first block (Faulty line fault) more is enough knows owns = record {
   said_if = λ fine. absurd cc;
-  done_if = λ none. absurd (by (block_in block) is.1 none);
+  done_if = λ none. absurd (by (block_of All block) is.1 none);
   knows = λ fine. absurd cc;
   owns = owns;
 }
@@ -321,7 +322,7 @@ block_agrees known state number first block (Faulty line fault) more is enough k
 block_agrees known state number first block (Unread line) more is enough knows owns = absurd cc
 
 -- another line
-line_agrees : (script : List ℕ) (known : KnownRooms) (state : Rooms) (number : ℕ) (line : List ℕ) (command : Command) (done : Done) (more : List Done) → command_in line ≡ Some command → IsDone (Ask command) done
+line_agrees : (script : List ℕ) (known : KnownRooms) (state : Rooms) (number : ℕ) (line : List ℕ) (command : Command) (done : Done) (more : List Done) → command_in line ≡ Some command → IsDone All (Ask command) done
     → Knows known state → Owns state (done ∷ more) → Agrees known (known_after_command known (command_in line)) state done more (line_said script known number line (command_in line))
 line_agrees script known state number line command (Replied asked reply) more read is knows owns =
     subst (λ (one : Option Command). Agrees known (known_after_command known one) state (Replied asked reply) more (line_said script known number line one)) (sym read)
@@ -336,7 +337,7 @@ asks place (Some command) entry is = (command, refl, cc)
 
 -- what comes first in a text
 entry_agrees : (script : List ℕ) (known : KnownRooms) (state : Rooms) (number place : ℕ) (text : List ℕ) (entry : Entry) (done : Done) (more : List Done)
-    → entry_at place (first_line text) (block_after (first_line text) (later_lines text)) ≡ Ok entry → IsDone entry done → ran_out_of_memory done ≡ false → Knows known state → Owns state (done ∷ more)
+    → entry_at place (first_line text) (block_after (first_line text) (later_lines text)) ≡ Ok entry → IsDone All entry done → ran_out_of_memory done ≡ false → Knows known state → Owns state (done ∷ more)
     → Agrees known (known_after known text) state done more (entry_said script known number text)
 entry_agrees script known state number place text entry done more at is enough knows owns = by (is_open (first_line text)) at
   where
@@ -347,14 +348,14 @@ entry_agrees script known state number place text entry done more at is enough k
     line = first_line text
 
     by : (b : Bool) → cond b (Ok (Open (place + 1) (cond b block []))) (asked place (command_in line)) ≡ Ok entry
-        → Agrees known (cond b (record { rooms = rooms_after_read known.rooms (block_in block); unknown_names = known.unknown_names }) (known_after_command known (command_in line))) state done more
+        → Agrees known (cond b (record { rooms = rooms_after_read known.rooms (block_of All block); unknown_names = known.unknown_names }) (known_after_command known (command_in line))) state done more
         (cond b (block_said known.rooms (later_line number 1) block) (line_said script known number line (command_in line)))
     by true same =
         let opens : entry ≡ Open (place + 1) block = cc in
-        block_agrees known state (later_line number 1) (place + 1) block done more (subst (λ (one : Entry). IsDone one done) opens is) enough knows owns
+        block_agrees known state (later_line number 1) (place + 1) block done more (subst (λ (one : Entry). IsDone All one done) opens is) enough knows owns
     by false same =
         let it = asks place (command_in line) entry same in
-        line_agrees script known state number line it.0 done more it.1 (subst (λ (one : Entry). IsDone one done) it.2 is) knows owns
+        line_agrees script known state number line it.0 done more it.1 (subst (λ (one : Entry). IsDone All one done) it.2 is) knows owns
 
 ends_with_none : (known : KnownRooms) (state : Rooms) → Knows known state → more_note MORE_COMMANDS.now known.unknown_names ≡ []
 ends_with_none known state knows = ap (more_note MORE_COMMANDS.now) knows.none
@@ -368,7 +369,7 @@ entries_of (Ok wanted) = wanted
 entries_of (Err fault) = []
 
 -- nothing came of no entries
-none_done : (script : List ℕ) (most left number : ℕ) (known : KnownRooms) (state : Rooms) (text : List ℕ) (wanted : List Entry) (all : List Done) → wanted ≡ [] → AreDone wanted all → Knows known state
+none_done : (script : List ℕ) (most left number : ℕ) (known : KnownRooms) (state : Rooms) (text : List ℕ) (wanted : List Entry) (all : List Done) → wanted ≡ [] → AreDone All wanted all → Knows known state
     → said_from (entries false script) most left known number text ≡ more_note MORE_COMMANDS.now known.unknown_names → SaysNone script most left number known text all
 none_done script most left number known state text [] [] none are knows is = record { said_if = λ fine. is ∙ ends_with_none known state knows; done_if = λ said. refl }
 none_done script most left number known state text [] (done ∷ all) none are knows is = absurd are
@@ -377,12 +378,12 @@ none_done script most left number known state text (entry ∷ wanted) all none a
 -- what is said of a text from each state of the rooms on, in so many entries
 abbrev AgreesFrom : List ℕ → ℕ → ℕ → Type 0
 AgreesFrom script most left = (number place : ℕ) (known : KnownRooms) (state : Rooms) (text : List ℕ) (wanted : List Entry) (all : List Done)
-    → script_from most place text ≡ Ok wanted → AreDone wanted all → list_any ran_out_of_memory all ≡ false → Knows known state → Owns state all → SaysNone script most left number known text all
+    → script_from most place text ≡ Ok wanted → AreDone All wanted all → list_any ran_out_of_memory all ≡ false → Knows known state → Owns state all → SaysNone script most left number known text all
 
 one_more : (script : List ℕ) (most left number place : ℕ) (known : KnownRooms) (state : Rooms) (byte : ℕ) (bytes : List ℕ) (entry : Entry) (wanted : List Entry) (all : List Done) → AgreesFrom script most left
     → entry_at place (first_line (byte ∷ bytes)) (block_after (first_line (byte ∷ bytes)) (later_lines (byte ∷ bytes))) ≡ Ok entry
     → script_from most (place + 1 + length (text_lines (block_after (first_line (byte ∷ bytes)) (later_lines (byte ∷ bytes))))) (text_after (first_line (byte ∷ bytes)) (later_lines (byte ∷ bytes))) ≡ Ok wanted
-    → AreDone (entry ∷ wanted) all → list_any ran_out_of_memory all ≡ false → Knows known state → Owns state all → SaysNone script (suc most) left number known (byte ∷ bytes) all
+    → AreDone All (entry ∷ wanted) all → list_any ran_out_of_memory all ≡ false → Knows known state → Owns state all → SaysNone script (suc most) left number known (byte ∷ bytes) all
 one_more script most left number place known state byte bytes entry wanted [] again at rest are enough knows owns = absurd are
 one_more script most left number place known state byte bytes entry wanted (done ∷ more) again at rest are enough knows owns =
     let text = byte ∷ bytes in
@@ -411,7 +412,7 @@ agrees script (suc most) left number place known state (byte ∷ bytes) wanted a
     let line = first_line (byte ∷ bytes) in
     let later = later_lines (byte ∷ bytes) in
     let it = went (entry_at place line (block_after line later)) (script_from most (place + 1 + length (text_lines (block_after line later))) (text_after line later)) wanted says in
-    one_more script most left number place known state byte bytes it.entry it.later all (agrees script most left) it.first_is it.rest_is (subst (λ (l : List Entry). AreDone l all) (sym it.all_is) are) enough knows owns
+    one_more script most left number place known state byte bytes it.entry it.later all (agrees script most left) it.first_is it.rest_is (subst (λ (l : List Entry). AreDone All l all) (sym it.all_is) are) enough knows owns
 
 -- ---- a script from its beginning
 
@@ -465,7 +466,7 @@ none_known_yet : Knows none_known (λ name. None)
 none_known_yet = record { none = refl; same = λ name. refl }
 
 -- All is well of a script exactly if nothing is said of it.
-pub played_well : (script output : List ℕ) (outcome : Outcome) → IsPlayFor script (Ok outcome) output → (outcome ≡ AllWell) ↔ (script_faults script ≡ [])
+pub played_well : (script output : List ℕ) (outcome : Outcome) → IsPlayFor All script (Ok outcome) output → (outcome ≡ AllWell) ↔ (script_faults script ≡ [])
 unfolding script_said
 played_well script output outcome played =
     let text = played.2 in

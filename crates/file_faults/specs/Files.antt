@@ -6,6 +6,7 @@ use Rattle.room_files.specs.Blocks.{Setup}
 use Rattle.room_files.specs.Faults.{FaultAt, text_sentence}
 use Rattle.room_files.specs.Inputs.{all_blocks, blocks_in}
 use Rattle.room_files.specs.declared.fault.TextFault.{TextFault}
+use Rattle.room_files.specs.declared.kinds.Kinds.TheVariants.{All}
 use Rattle.fault_text.specs.Lines.{from_line, indented}
 use Rattle.fault_text.specs.Places.{heading}
 use Rattle.fault_text.specs.Refusals.{noted_refusal, noted_refusals, refusal_line}
@@ -22,7 +23,7 @@ AreRefusalsSaid input refused said = (refusals : List RefusedBlock) × (refused 
 
 -- of all blocks of a file of rooms that are refused
 abbrev pub AreRoomFaults : List ℕ → List ℕ → Type 0
-AreRoomFaults input said = AreRefusalsSaid input (all_blocks input).refused said
+AreRoomFaults input said = AreRefusalsSaid input (all_blocks All input).refused said
 
 abbrev pub AddsRoomFaults : List ℕ → List ℕ → List ℕ → Type 0
 AddsRoomFaults input old new = (said : List ℕ) × AreRoomFaults input said × (new ≡ old ++ said)
@@ -35,7 +36,7 @@ AreFaultsAfter input (Ok read) said =
 AreFaultsAfter input (Err fault) said = (refused : List ℕ) × AreRoomFaults input refused × (said ≡ refused ++ (indented (heading fault.0 (text_sentence fault.1)) ++ indented NO_EVENTS.now))
 
 unfoldable pub AreTranscriptFaults : List ℕ → List ℕ → Type 0
-AreTranscriptFaults input said = AreFaultsAfter input (blocks_in input) said
+AreTranscriptFaults input said = AreFaultsAfter input (blocks_in All input) said
 
 -- ---- as JSON
 
@@ -56,7 +57,7 @@ abbrev pub refusal_objects : List ℕ → List RefusedBlock → List ℕ
 refusal_objects input refusals = all_objects input (take MOST_EXPLAINED refusals) ++ more_if (drop MOST_EXPLAINED refusals)
 
 abbrev pub AreRoomObjects : List ℕ → List ℕ → Type 0
-AreRoomObjects input said = (refusals : List RefusedBlock) × ((all_blocks input).refused ≡ flat_map refusal_line refusals) × (said ≡ refusal_objects input refusals)
+AreRoomObjects input said = (refusals : List RefusedBlock) × ((all_blocks All input).refused ≡ flat_map refusal_line refusals) × (said ≡ refusal_objects input refusals)
 
 abbrev pub AddsRoomObjects : List ℕ → List ℕ → List ℕ → Type 0
 AddsRoomObjects input old new = (said : List ℕ) × AreRoomObjects input said × (new ≡ old ++ said)
@@ -75,7 +76,7 @@ AreObjectsAfter input (Ok read) said =
 AreObjectsAfter input (Err fault) said = (refused : List ℕ) × AreRoomObjects input refused × (said ≡ refused ++ fault_in true false (unread_spot fault.0 fault.1) (unread_said fault.0 fault.1))
 
 unfoldable pub AreTranscriptObjects : List ℕ → List ℕ → Type 0
-AreTranscriptObjects input said = AreObjectsAfter input (blocks_in input) said
+AreTranscriptObjects input said = AreObjectsAfter input (blocks_in All input) said
 
 -- ---- laws
 

@@ -2,7 +2,8 @@
 use Rattle.std.specs.Prelude.{ℕ, ◌+◌, ◌==◌, ◌||◌, ◌&&◌, Bool, false, List, [], ◌∷◌, ◌++◌, length, take, map, Option, Some, None, Result, Ok, Err, is_some, nat_eq, codes, decimal, if◌then◌else◌}
 use Rattle.std.specs.List.{list_any, starts_with}
 use Rattle.std.specs.Result.{is_err}
-use Rattle.room_spec.specs.Blocks.{block_in}
+use Rattle.room_files.specs.Kinds.{block_of}
+use Rattle.room_files.specs.declared.kinds.Kinds.TheVariants.{All}
 use Rattle.room_spec.specs.Rooms.{RoomSpec}
 use Rattle.room_spec.specs.Texts.{first_line, later_lines}
 use Rattle.room_spec.specs.declared.fault.SpecFault.{SpecFault}
@@ -52,7 +53,7 @@ read_said rooms number block (Err fault) = fault_said number block fault
 read_said rooms number block (Ok read) = taken_said rooms number block read.0
 
 abbrev pub block_said : RoomsByName → ℕ → List ℕ → List ℕ
-block_said rooms number block = read_said rooms number block (block_in block)
+block_said rooms number block = read_said rooms number block (block_of All block)
 
 abbrev pub rooms_after_read : RoomsByName → Result (RoomSpec × ℕ) SpecFault → RoomsByName
 rooms_after_read rooms (Err fault) = rooms
@@ -115,7 +116,7 @@ entry_said script known number text =
 
 abbrev pub known_after : KnownRooms → List ℕ → KnownRooms
 known_after known text =
-    if is_open (first_line text) then record { rooms = rooms_after_read known.rooms (block_in (block_in_front (later_lines text))); unknown_names = known.unknown_names }
+    if is_open (first_line text) then record { rooms = rooms_after_read known.rooms (block_of All (block_in_front (later_lines text))); unknown_names = known.unknown_names }
     else known_after_command known (command_in (first_line text))
 
 abbrev pub next_number : ℕ → List ℕ → List ℕ → ℕ
@@ -123,7 +124,7 @@ next_number number line later = later_line number (1 + length (text_lines (block
 
 -- the block after a line `open` is refused
 abbrev pub is_block_refused : List ℕ → Bool
-is_block_refused text = is_open (first_line text) && is_err (block_in (block_in_front (later_lines text)))
+is_block_refused text = is_open (first_line text) && is_err (block_of All (block_in_front (later_lines text)))
 
 -- the place of a block's first fault, or of its name, which is taken
 abbrev pub read_spot : ℕ → List ℕ → Result (RoomSpec × ℕ) SpecFault → SpotParts
@@ -142,7 +143,7 @@ line_spot known number line (Some command) = refused_spot number (refusal_of kno
 -- the place of what is said of an entry
 abbrev pub entry_spot : KnownRooms → ℕ → List ℕ → SpotParts
 entry_spot known number text =
-    if is_open (first_line text) then read_spot (later_line number 1) (block_in_front (later_lines text)) (block_in (block_in_front (later_lines text)))
+    if is_open (first_line text) then read_spot (later_line number 1) (block_in_front (later_lines text)) (block_of All (block_in_front (later_lines text)))
     else line_spot known number (first_line text) (command_in (first_line text))
 
 -- what is said of an entry, as text or as JSON

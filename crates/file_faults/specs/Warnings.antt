@@ -1,6 +1,7 @@
 -- What is warned of in the rooms of a file.
 use Rattle.std.specs.Prelude.{ℕ, Bool, true, false, List, [], ◌∷◌, ◌++◌, length, drop, None, Result, Ok, Err, if◌then◌else◌}
-use Rattle.room_spec.specs.Blocks.{block_in}
+use Rattle.room_files.specs.Kinds.{block_of}
+use Rattle.room_files.specs.declared.kinds.Kinds.TheVariants.{All}
 use Rattle.room_spec.specs.Rooms.{RoomSpec}
 use Rattle.room_spec.specs.Texts.{later_lines}
 use Rattle.room_spec.specs.declared.fault.SpecFault.{SpecFault}
@@ -23,7 +24,7 @@ warnings_if json number block (Err fault) = []
 
 -- of a block that is valid, whose first line has this number
 abbrev pub block_warnings : Bool → ℕ → List ℕ → List ℕ
-block_warnings json number block = warnings_if json number block (block_in block)
+block_warnings json number block = warnings_if json number block (block_of All block)
 
 -- a part of a file is a block, or another line
 abbrev pub part_warnings : Bool → ℕ → List ℕ → List ℕ

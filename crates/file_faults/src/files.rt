@@ -10,7 +10,7 @@ use fault_text::{
     Refusals, RefusedBlock, Spot, go_past, write_heading, write_indented, write_noted,
 };
 use io_text::Text;
-use room_files::{InputFault, Setup, SpecList, TextFault, read_all_blocks, read_blocks};
+use room_files::{InputFault, Kinds, Setup, SpecList, TextFault, read_all_blocks, read_blocks};
 use room_warnings::Format;
 use std::alloc::{AllocError, Global};
 
@@ -43,7 +43,7 @@ fn write_room_objects(alloc: Global, output: &mut Text, input: &[u8]) -> Result<
     ensures { OnOk result (AddsRoomObjects input.now output.old output.new) }
 {
     let no_blocks = Setup::new(SpecList::new(alloc), Refusals::new(alloc));
-    let setup = read_all_blocks(alloc, no_blocks, input)?;
+    let setup = read_all_blocks(alloc, Kinds::All, no_blocks, input)?;
     write_refusals(alloc, output, input, &setup.refused)
 }
 
@@ -117,7 +117,7 @@ pub(crate) fn transcript_objects(alloc: Global, input: &[u8]) -> Result<Text, Al
 {
     let mut output = Text::new(alloc);
     let no_blocks = Setup::new(SpecList::new(alloc), Refusals::new(alloc));
-    match read_blocks(alloc, no_blocks, input) {
+    match read_blocks(alloc, Kinds::All, no_blocks, input) {
         Ok((setup, transcript)) => {
             write_refusals(alloc, &mut output, input, &setup.refused)?;
             let opened = Opened::of(&setup.rooms, input, &setup.refused);
@@ -160,7 +160,7 @@ fn write_room_faults(alloc: Global, output: &mut Text, input: &[u8]) -> Result<(
     ensures { OnOk result (AddsRoomFaults input.now output.old output.new) }
 {
     let no_blocks = Setup::new(SpecList::new(alloc), Refusals::new(alloc));
-    let setup = read_all_blocks(alloc, no_blocks, input)?;
+    let setup = read_all_blocks(alloc, Kinds::All, no_blocks, input)?;
     setup.refused.write_notes(alloc, output, input)
 }
 
@@ -172,7 +172,7 @@ pub fn transcript_faults(alloc: Global, input: &[u8]) -> Result<Text, AllocError
 {
     let mut output = Text::new(alloc);
     let no_blocks = Setup::new(SpecList::new(alloc), Refusals::new(alloc));
-    match read_blocks(alloc, no_blocks, input) {
+    match read_blocks(alloc, Kinds::All, no_blocks, input) {
         Ok((setup, transcript)) => {
             setup.refused.write_notes(alloc, &mut output, input)?;
             let opened = Opened::of(&setup.rooms, input, &setup.refused);

@@ -11,6 +11,7 @@ ghost use Rattle.service_core.specs.Replies.{OpenRoom, name_in, reply_to, room_a
 ghost use Rattle.service_core.specs.declared.command.Command.{Command};
 ghost use Rattle.service_core.specs.declared.command.Command.TheVariants.{Begin};
 ghost use Rattle.room_files.specs.declared.fault.TextFault.{TextFault};
+ghost use Rattle.room_files.specs.declared.kinds.Kinds.TheVariants.{All};
 ghost use Rattle.fault_text.specs.Refusals.{noted_refusal};
 ghost use Rattle.fault_text.specs.Spots.{refusal_spot};
 ghost use Rattle.fault_text.specs.UnknownNames.{MetNames};
@@ -45,19 +46,19 @@ pub fn taken_names_are_found()
 /// Nothing is said of a script exactly if, whenever it is played with the memory that it needs, all is well: each of its lines is a command or belongs to
 /// a block, no block is refused, and no command.
 pub fn scripts_without_faults()
-    ensures played { (script output : List ℕ) (outcome : Ending) → IsPlayFor script (Ok outcome) output → (outcome ≡ AllWell) ↔ (script_faults script ≡ []) }
+    ensures played { (script output : List ℕ) (outcome : Ending) → IsPlayFor All script (Ok outcome) output → (outcome ≡ AllWell) ↔ (script_faults script ≡ []) }
     ensures read { (script : List ℕ) → script_faults script ≡ [] → IsOk (script_says script) }
 {}
 
 /// Nothing is said of a file of rooms exactly if none of its blocks is refused.
 pub fn rooms_without_faults()
-    ensures { (input said : List ℕ) → AreRoomFaults input said → (said ≡ []) ↔ ((all_blocks input).refused ≡ []) }
+    ensures { (input said : List ℕ) → AreRoomFaults input said → (said ≡ []) ↔ ((all_blocks All input).refused ≡ []) }
 {}
 
 /// Nothing is said of a transcript exactly if `bgsim check` can read it and refuses none of its blocks: it has a line `events`, and each line after that is an
 /// event of one of its rooms.
 pub fn transcripts_without_faults()
-    ensures { (input said : List ℕ) → AreTranscriptFaults input said → (said ≡ []) ↔ IsWhole (input_says input) }
+    ensures { (input said : List ℕ) → AreTranscriptFaults input said → (said ≡ []) ↔ IsWhole (input_says All input) }
 {}
 
 /// The line, the place and the sentence of an object are those of the text, which begins with them: after the line that a block is refused, if one is, with the

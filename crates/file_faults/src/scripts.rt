@@ -1,6 +1,7 @@
 //! All faults of a script.
 ghost use Rattle.std.specs.Prelude.{◌≡◌, ◌++◌, ◌≤◌, IfOk, OnOk, length};
-ghost use Rattle.room_spec.specs.Blocks.{block_in};
+ghost use Rattle.room_files.specs.Kinds.{block_of};
+ghost use Rattle.room_files.specs.declared.kinds.Kinds.TheVariants.{All};
 ghost use Rattle.room_files.specs.Blocks.{block_extent};
 ghost use Rattle.script_play.specs.Script.{command_in, is_open, text_after};
 ghost use Rattle.file_faults.specs.Scripts.{absent_said, bad_command, begins_with_block, block_in_front, block_said, count_note, ends_as_elsewhere, entry_in, entry_said, entry_spot, explained_at_most, fault_said, is_block_refused, known_after, known_after_command, line_said, line_spot, meant, met_if_absent, next_number, none_known, refused_said, refused_spot, rooms_after_read, script_faults, script_said, simulators_note, taken_said};
@@ -21,7 +22,7 @@ use fault_text::{
     write_near_room, write_place,
 };
 use io_text::Text;
-use room_files::{BlockFault, TextFault, count_lines, read_room, split_line, write_refused};
+use room_files::{BlockFault, Kinds, TextFault, count_lines, read_room, split_line, write_refused};
 use room_spec::{Name, Spec, SpecFault, block_len};
 use room_warnings::Format;
 use script_play::read_command;
@@ -210,7 +211,7 @@ fn entry_spot(
     }
     let block = block_in_front(later);
     let first = later_line(number, 1);
-    match read_room(alloc, block)? {
+    match read_room(alloc, Kinds::All, block)? {
         Ok(_) => Ok((false, Spot::of_refusal(first, block, BlockFault::NameTaken))),
         Err(fault) => Ok((true, Spot::of_block(first, block, fault))),
     }
@@ -265,9 +266,9 @@ fn write_block_said(
     block: &ScriptPart<'_>,
 ) -> Result<(), AllocError>
     ensures text { OnOk result (output.new ≡ output.old ++ block_said rooms.old block.now.number block.now.text.now) }
-    ensures rooms { OnOk result (rooms.new ≡ rooms_after_read rooms.old (block_in block.now.text.now)) }
+    ensures rooms { OnOk result (rooms.new ≡ rooms_after_read rooms.old (block_of All block.now.text.now)) }
 {
-    match read_room(alloc, block.text)? {
+    match read_room(alloc, Kinds::All, block.text)? {
         Ok((spec, _)) => write_taken_said(alloc, output, rooms, block, &spec),
         Err(fault) => write_refusal_said(alloc, output, block, fault),
     }

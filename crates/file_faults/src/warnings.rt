@@ -13,7 +13,7 @@ use crate::walk::write_part;
 use fault_text::{MOST_EXPLAINED, later_line, write_indented};
 use io_text::Text;
 use json_lines::{text_value, write_line};
-use room_files::{count_lines, read_room, split_line};
+use room_files::{Kinds, count_lines, read_room, split_line};
 use room_warnings::{Format, write_warnings};
 use serde_json::{Value, json};
 use std::alloc::{AllocError, Global};
@@ -115,7 +115,7 @@ fn write_block_warnings(
 ) -> Result<(), AllocError>
     ensures { OnOk result (output.new ≡ output.old ++ block_warnings format.json number block.now) }
 {
-    match read_room(format.alloc, block)? {
+    match read_room(format.alloc, Kinds::All, block)? {
         Ok((spec, _)) => write_warnings(format, output, number, block, &spec),
         Err(_) => Ok(()),
     }

@@ -4,13 +4,14 @@ ghost use Rattle.history_checker.specs.Verdicts.{FedEvent, HasProcessed, specs_o
 ghost use Rattle.room_files.specs.Blocks.{IsFaultOr};
 ghost use Rattle.room_files.specs.Inputs.{MayLackMemory, input_says};
 ghost use Rattle.room_files.specs.Verdicts.{IsOutput};
+ghost use Rattle.room_files.specs.declared.kinds.Kinds.TheVariants.{Ordinary};
 ghost use Rattle.io_text.specs.Reading.{most_bytes};
 ghost use Rattle.file_verdicts.specs.Check.{IsOutputFor};
 
 use history_checker::Rooms;
 use io_text::Text;
 use room_files::{
-    Answer, InputFault, Setup, feed_events, is_well, outcome_if, read_blocks, write_task,
+    Answer, InputFault, Kinds, Setup, feed_events, is_well, outcome_if, read_blocks, write_task,
     write_verdict,
 };
 use std::alloc::{AllocError, Global};
@@ -19,10 +20,10 @@ use std::alloc::{AllocError, Global};
 pub fn judge(alloc: Global, input: &[u8]) -> Result<Answer, InputFault>
     requires { length input.now ≤ most_bytes }
     ensures output { IfOk result (λ answer. IsOutputFor input.now answer.outcome answer.output) }
-    ensures err { IfErr result (IsFaultOr (MayLackMemory input.now) (input_says input.now)) }
+    ensures err { IfErr result (IsFaultOr (MayLackMemory Ordinary input.now) (input_says Ordinary input.now)) }
 {
     let no_blocks = Setup::new(Rooms::new(alloc), Text::new(alloc));
-    let (setup, transcript) = read_blocks(alloc, no_blocks, input)?;
+    let (setup, transcript) = read_blocks(alloc, Kinds::Ordinary, no_blocks, input)?;
     let Setup {
         mut rooms,
         refused,

@@ -1,4 +1,6 @@
 mod Tracking
+mod Alone
+mod Own
 mod Breaking
 mod Explaining
 mod WorkedReasons

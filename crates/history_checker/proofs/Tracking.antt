@@ -18,7 +18,7 @@ use Rattle.transcript.proofs.CallerLemmas.{count_more, count_same, due_other, if
 
 -- ---- another process
 
-at_other : (spec : RoomSpec) (history : List Event) (event : Event) (q : ℕ) (process : Process) → process_of event ≢ q → IsAt spec history q process → IsAt spec (history ++ event ∷ []) q process
+pub at_other : (spec : RoomSpec) (history : List Event) (event : Event) (q : ℕ) (process : Process) → process_of event ≢ q → IsAt spec history q process → IsAt spec (history ++ event ∷ []) q process
 at_other spec history event q process ne at =
     let calm = quiet q event ne in
     record {
@@ -31,7 +31,7 @@ at_other spec history event q process ne at =
 
 -- ---- the process itself
 
-at_write : (spec : RoomSpec) (history : List Event) (p v : ℕ) (process : Process) → process.turn ≡ Write v → IsAt spec history p process
+pub at_write : (spec : RoomSpec) (history : List Event) (p v : ℕ) (process : Process) → process.turn ≡ Write v → IsAt spec history p process
     → IsAt spec (history ++ events.Write p v ∷ []) p (record { input = process.input; turn = Snap; last = Some v; writes = process.writes + 1 })
 at_write spec history p v process turn at =
     let no_debt : owed process.turn ≡ 0 = ap owed turn in
@@ -47,7 +47,7 @@ owed_for : (action : Action) → owed (turn_for action) ≡ 0
 owed_for (actions.Write v) = refl
 owed_for (actions.Decide v) = refl
 
-at_decide : (spec : RoomSpec) (history : List Event) (p v : ℕ) (process : Process) → process.turn ≡ Decide v → IsAt spec history p process
+pub at_decide : (spec : RoomSpec) (history : List Event) (p v : ℕ) (process : Process) → process.turn ≡ Decide v → IsAt spec history p process
     → IsAt spec (history ++ events.Decide p v ∷ []) p (record { input = process.input; turn = Over; last = process.last; writes = process.writes })
 at_decide spec history p v process turn at =
     let no_debt : owed process.turn ≡ 0 = ap owed turn in
@@ -59,7 +59,7 @@ at_decide spec history p v process turn at =
       snaps = rw (count_same (is_snap_by p) history (events.Decide p v) refl) (omega (arith, at.snaps, no_debt));
     }
 
-at_snap : (spec : RoomSpec) (history : List Event) (p : ℕ) (row : ArrayVec (Option ℕ)) (process : Process) → process.turn ≡ Snap → IsAt spec history p process
+pub at_snap : (spec : RoomSpec) (history : List Event) (p : ℕ) (row : ArrayVec (Option ℕ)) (process : Process) → process.turn ≡ Snap → IsAt spec history p process
     → IsAt spec (history ++ events.Snap p row ∷ []) p (record { input = process.input; turn = turn_for (next_action spec.protocol process.input p process.writes row.items); last = process.last; writes = process.writes })
 at_snap spec history p row process turn at =
     let debt : owed process.turn ≡ 1 = ap owed turn in

@@ -20,6 +20,7 @@ pair = record {
   version = One;
   name = codes "pair";
   inputs = 7 ∷ 3 ∷ [];
+  own = [];
   simulators = 2;
   rounds = 1;
   turns = 100;

@@ -4,3 +4,4 @@ pub mod Misfits
 pub mod Shown
 pub mod Verdicts
 pub mod Tasks
+pub mod Reductions

@@ -52,7 +52,7 @@ pub struct Process {
 
 impl Turn {
     /// What the protocol asks for.
-    fn of(action: Action) -> Turn
+    pub(crate) fn of(action: Action) -> Turn
         ensures { result ≡ turn_for action }
     {
         match action {
@@ -61,7 +61,7 @@ impl Turn {
         }
     }
 
-    fn is_write_of(self, v: u32) -> bool
+    pub(crate) fn is_write_of(self, v: u32) -> bool
         ensures { IsTrue result ↔ (self ≡ Turn.Write v) }
     {
         match self {
@@ -70,13 +70,13 @@ impl Turn {
         }
     }
 
-    fn is_snap(self) -> bool
+    pub(crate) fn is_snap(self) -> bool
         ensures { IsTrue result ↔ (self ≡ Turn.Snap) }
     {
         matches!(self, Turn::Snap)
     }
 
-    fn is_decide_of(self, v: u32) -> bool
+    pub(crate) fn is_decide_of(self, v: u32) -> bool
         ensures { IsTrue result ↔ (self ≡ Turn.Decide v) }
     {
         match self {

@@ -4,7 +4,7 @@ use Rattle.std.specs.Prelude.{codes}
 use Rattle.std.specs.Fmt.{digits}
 use Rattle.input_vectors.specs.Lines.{too_many_line, vector_words}
 use Rattle.input_vectors.specs.Values.{values_in}
-use Rattle.input_vectors.specs.Vectors.{block_with, vector_count, vectors}
+use Rattle.input_vectors.specs.Vectors.{vector_count, vectors}
 use Rattle.input_vectors.specs.declared.values.ValuesFault.TheVariants.{NoNumber, Repeated, TooMany}
 
 -- ---- vectors
@@ -21,12 +21,6 @@ one_value = refl
 
 how_many : vector_count (0 ∷ 1 ∷ 2 ∷ []) 4 ≡ 81
 how_many = refl
-
--- ---- blocks
-
-other_inputs : block_with (codes "bgsim 2\nroom pair\ninputs 4 9\nsimulators 2\nrounds 1\n") (0 ∷ 15 ∷ []) ≡ codes "bgsim 2\nroom pair\ninputs 0 15\nsimulators 2\nrounds 1\n"
-unfolding digits
-other_inputs = refl
 
 -- ---- lines
 

@@ -2,8 +2,8 @@
 ghost use Rattle.std.specs.Prelude.{◌≡◌, ◌∷◌, ◌++◌, OnOk, codes, decimal};
 ghost use Rattle.input_vectors.specs.Lines.{too_many_line, vector_words, vectors_line};
 
-use crate::block::put_inputs;
 use io_text::Text;
+use run_blocks::put_inputs;
 use std::alloc::AllocError;
 
 /// Writes what the line of a vector begins with: the room's name and its inputs.

@@ -7,6 +7,7 @@ use Rattle.service_core.specs.declared.reply.Reply.{Reply}
 use Rattle.room_files.specs.Faults.{text_code}
 use Rattle.room_files.specs.declared.fault.TextFault.TheVariants.{NoCommand}
 use Rattle.room_files.specs.Lines.{text_lines}
+use Rattle.room_files.specs.declared.kinds.Kinds.TheVariants.{All}
 use Rattle.script_play.specs.Script.{Entry, Ask, Open, asked, command_in}
 use Rattle.script_play.specs.Play.{Done, IsDone, Replied}
 use Rattle.live_script.specs.Entries.{Piece, Line, Block, asked_by, line_after}
@@ -19,7 +20,7 @@ use Rattle.live_script.specs.declared.live.TheConstants.{MAX_LINE_NUMBER}
 abbrev Passes : Piece → Live → Live → Type 0
 Passes piece before passed = passed ≡ record before { line = line_after before.line piece }
 
-pub done_answered : (piece : Piece) (done : Done) (entry : Entry) (before passed after : Live) → Passes piece before passed → HasSpace before.opened piece → asked_by before.line piece ≡ Ok entry → IsDone entry done
+pub done_answered : (piece : Piece) (done : Done) (entry : Entry) (before passed after : Live) → Passes piece before passed → HasSpace before.opened piece → asked_by before.line piece ≡ Ok entry → IsDone All entry done
     → IsTaken done passed after → IsAnsweredBy piece (Did done) before after
 done_answered piece done entry before passed after passes space asks is taken =
     let now : IsTaken done (record before { line = line_after before.line piece }) after = subst (λ (l : Live). IsTaken done l after) passes taken in
@@ -46,9 +47,9 @@ crowded_answered block number before passed after passes full is refused =
     record { is = (refl, full); leaves = now.rooms; says = now.says; open_is = now.open_is; line_is = now.line_is; ends = now.ends }
 
 pub opened_answered : (block : List ℕ) (number : ℕ) (done : Done) (before passed after : Live) → Passes (Block block) before passed → before.opened < most_rooms → number ≡ before.line
-    → IsDone (Open (number + 1) block) done → IsTaken done passed after → IsAnsweredBy (Block block) (Did done) before after
+    → IsDone All (Open (number + 1) block) done → IsTaken done passed after → IsAnsweredBy (Block block) (Did done) before after
 opened_answered block number done before passed after passes space at is taken =
-    done_answered (Block block) done (Open (before.line + 1) block) before passed after passes space refl (subst (λ (n : ℕ). IsDone (Open (n + 1) block) done) at is) taken
+    done_answered (Block block) done (Open (before.line + 1) block) before passed after passes space refl (subst (λ (n : ℕ). IsDone All (Open (n + 1) block) done) at is) taken
 
 pub passes_block : (block : List ℕ) (count : ℕ) (before passed : Live) → count ≡ length (text_lines block) → passed ≡ record before { line = min (before.line + (1 + count)) MAX_LINE_NUMBER } → Passes (Block block) before passed
 passes_block block count before passed is passes = subst (λ (n : ℕ). passed ≡ record before { line = min (before.line + (1 + n)) MAX_LINE_NUMBER }) is passes

@@ -8,6 +8,7 @@ use Rattle.service_core.specs.declared.reply.Reply.TheVariants.{Begun, Closed, C
 use Rattle.room_files.specs.Faults.{text_code}
 use Rattle.room_files.specs.declared.fault.TextFault.{TextFault}
 use Rattle.room_files.specs.declared.outcome.Outcome.{Outcome}
+use Rattle.room_files.specs.declared.kinds.Kinds.TheVariants.{All}
 use Rattle.script_play.specs.Script.{Entry}
 use Rattle.script_play.specs.Following.{Leaves}
 use Rattle.script_play.specs.Play.{AreReplies, Done, Faulty, IsDone, Replied, Unread, commands_of, done_text, ending_if, ran_out_of_memory, is_refused, replies_in}
@@ -73,7 +74,7 @@ HasSpace opened (Block block) = opened < most_rooms
 
 -- This is the answer to an entry whose first line has this number, when this many rooms are open.
 abbrev pub IsAnswer : ℕ → ℕ → Piece → Answer → Type 0
-IsAnswer opened number piece (Did done) = HasSpace opened piece × (entry : Entry) × (asked_by number piece ≡ Ok entry) × IsDone entry done
+IsAnswer opened number piece (Did done) = HasSpace opened piece × (entry : Entry) × (asked_by number piece ≡ Ok entry) × IsDone All entry done
 IsAnswer opened number piece (Malformed line fault) = asked_by number piece ≡ Err (line, fault)
 IsAnswer opened number (Line line) (Crowded at) = ⊥
 IsAnswer opened number (Block block) (Crowded at) = (at ≡ number) × (most_rooms ≤ opened)

@@ -3,6 +3,7 @@ ghost use Rattle.std.specs.Prelude.{◌≡◌, ◌+◌, ◌++◌, IfNone, IfOk, 
 ghost use Rattle.service_core.specs.declared.reply.Reply.{Reply as ReplyData};
 ghost use Rattle.service_core.specs.Runs.{is_want};
 ghost use Rattle.room_files.specs.Faults.{text_code};
+ghost use Rattle.room_files.specs.declared.kinds.Kinds.TheVariants.{All};
 ghost use Rattle.script_play.specs.Script.{Open};
 ghost use Rattle.script_play.specs.Play.{Done, Faulty, IsDone, Replied, Unread, ending_with, is_refusal};
 ghost use Rattle.live_script.specs.Entries.{Block as BlockPiece, Line as LinePiece, is_unfinished, last_piece};
@@ -11,7 +12,9 @@ ghost use Rattle.live_script.specs.Sessions.{IsAnsweredBy, IsNew, IsRefused, IsT
 
 use crate::entries::whole_block;
 use io_text::Text;
-use room_files::{Outcome, TextFault, count_lines, read_room, write_refused, write_refused_code};
+use room_files::{
+    Kinds, Outcome, TextFault, count_lines, read_room, write_refused, write_refused_code,
+};
 use room_spec::{Spec, SpecFault, cut};
 use script_play::{read_command, sim_in, write_reply};
 use service_core::{Command, Refusal, Reply, Service};
@@ -110,9 +113,9 @@ impl Live {
 
     /// Opens the room of a block whose first line has this number.
     fn open(&mut self, alloc: Global, number: u64, block: &[u8]) -> Result<(), AllocError>
-        ensures { OnOk result ((done : Done) × IsDone (Open number block.now) done × IsTaken done self.old self.new) }
+        ensures { OnOk result ((done : Done) × IsDone All (Open number block.now) done × IsTaken done self.old self.new) }
     {
-        match read_room(alloc, block) {
+        match read_room(alloc, Kinds::All, block) {
             Ok(Ok((spec, _))) => self.reply_to(alloc, Command::Begin(spec)),
             Ok(Err(fault)) => self.refuse_block(number, fault),
             Err(AllocError) => self.refuse_unread(number),

@@ -6,7 +6,7 @@ ghost use Rattle.protocol_lang.specs.Meaning.{holds, applies, action, action_of,
 
 use crate::comparison::Comparison;
 use crate::environment::Environment;
-use crate::formula::MOST_WAITING;
+use crate::formula::{FEW_WAITING, MOST_WAITING};
 use crate::protocol::Protocol;
 use crate::rules::{ActionRule, Rule, Tree};
 use crate::tree::Kind;
@@ -39,11 +39,22 @@ pub fn next(protocol: &Protocol, input: u32, id: u32, round: u32, view: &View) -
     ensures { result ≡ next_action protocol.now input id round view.now.items }
 {
     let environment = Environment::new(input, id, view.len() as u32, round, view.as_slice());
-    let mut below = [0; MOST_WAITING];
-    action_in(&protocol.tree, &environment, &mut below)
+    if protocol.is_long {
+        return next_by_long(&protocol.tree, &environment);
+    }
+    action_in(&protocol.tree, &environment, &mut [0; FEW_WAITING])
 }
 
-fn action_in(tree: &Tree, environment: &Environment<'_>, below: &mut [u32; MOST_WAITING]) -> Action
+/// The same by a protocol whose expressions may be long. Only how long it takes rests on which of the two is called.
+#[inline(never)]
+fn next_by_long(tree: &Tree, environment: &Environment<'_>) -> Action
+    ensures { result ≡ action_in tree.now environment.now }
+{
+    action_in(tree, environment, &mut [0; MOST_WAITING])
+}
+
+#[inline(always)]
+fn action_in(tree: &Tree, environment: &Environment<'_>, below: &mut [u32]) -> Action
     ensures { result ≡ action_in tree.now environment.now }
 {
     match action_by(tree.rules.as_slice(), environment, below) {
@@ -53,11 +64,8 @@ fn action_in(tree: &Tree, environment: &Environment<'_>, below: &mut [u32; MOST_
 }
 
 /// What the first rule that applies asks for.
-fn action_by(
-    rules: &[Rule],
-    environment: &Environment<'_>,
-    below: &mut [u32; MOST_WAITING],
-) -> Option<Action>
+#[inline(always)]
+fn action_by(rules: &[Rule], environment: &Environment<'_>, below: &mut [u32]) -> Option<Action>
     ensures { result ≡ option_map (λ rule. action_of environment.now rule.action_rule) (find (applies environment.now) rules.now) }
 {
     for rule in rules {
@@ -68,11 +76,8 @@ fn action_by(
     None
 }
 
-fn all_hold(
-    comparisons: &[Comparison],
-    environment: &Environment<'_>,
-    below: &mut [u32; MOST_WAITING],
-) -> bool
+#[inline(always)]
+fn all_hold(comparisons: &[Comparison], environment: &Environment<'_>, below: &mut [u32]) -> bool
     ensures { result ≡ list_all (holds environment.now) comparisons.now }
 {
     for comparison in comparisons {
@@ -83,11 +88,7 @@ fn all_hold(
     true
 }
 
-fn action_of(
-    action_rule: &ActionRule,
-    environment: &Environment<'_>,
-    below: &mut [u32; MOST_WAITING],
-) -> Action
+fn action_of(action_rule: &ActionRule, environment: &Environment<'_>, below: &mut [u32]) -> Action
     ensures { result ≡ action_of environment.now action_rule.now }
 {
     let value = action_rule.value.value(environment, below);

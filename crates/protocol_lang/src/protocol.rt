@@ -11,10 +11,15 @@ use crate::rules::Tree;
 use std::alloc::Global;
 use std::marker::Model;
 
+/// The bytes of a text above which its expressions are taken to be long.
+const LONG_TEXT: usize = 256;
+
 /// A protocol. It is made by [`parse`] and [`parse_bytes`] alone.
 #[derive(Drop)]
 pub struct Protocol {
     pub(crate) tree: Tree,
+    /// Whether the text is so long that expressions of more than [`FEW_WAITING`](crate::formula::FEW_WAITING) steps are to be expected. Nothing but speed rests on it.
+    pub(crate) is_long: bool,
 }
 
 impl Model for Protocol {
@@ -62,5 +67,8 @@ pub fn parse_bytes(alloc: Global, text: &[u8]) -> Result<Protocol, ParseFault>
     ensures first { IfErr result (IsFirstFault text.now) }
 {
     let tree = parser::read(alloc, text)?;
-    Ok(Protocol { tree })
+    Ok(Protocol {
+        tree,
+        is_long: text.len() > LONG_TEXT,
+    })
 }

@@ -1,7 +1,8 @@
 -- The lemmas that proofs of the crates above may name: this crate promises them, as it does the clauses of
 -- its functions. All others are its own.
+pub use Rattle.room_core.proofs.settling.AgreedInputs.{written_known}
 pub use Rattle.room_core.proofs.settling.Alone.{steps_within}
-pub use Rattle.room_core.proofs.settling.Certified.{never_spent}
+pub use Rattle.room_core.proofs.settling.CertifiedReductions.{none_spent}
 pub use Rattle.room_core.proofs.settling.Counted.{no_more_pass}
 pub use Rattle.room_core.proofs.settling.Decisions.{process_decided}
 pub use Rattle.room_core.proofs.fields.Decoding.{agrees}
@@ -18,8 +19,9 @@ pub use Rattle.room_core.proofs.fields.Prefixes.{replay_fields-snoc}
 pub use Rattle.room_core.proofs.fields.Taken.{taken_line, taken_moves}
 pub use Rattle.room_core.proofs.moments.Moments.{at_before, at_end, length-snoc}
 pub use Rattle.room_core.proofs.points.LastReads.{last_now, last_same, slice_get-push}
-pub use Rattle.room_core.proofs.points.OneProcess.{left_alone}
+pub use Rattle.room_core.proofs.points.OneProcess.{left_uncounted, left_unstored}
 pub use Rattle.room_core.proofs.points.RealTimes.{decision_stays}
 pub use Rattle.room_core.proofs.points.Growing.{GoesOn, goes_on}
 pub use Rattle.room_core.proofs.points.RoomPoints.{effects_at, timeline_of_run, timelines}
+pub use Rattle.room_core.proofs.settling.FewSpent.{few_out}
 pub use Rattle.room_core.proofs.settling.Following.{settling_follows, steps_follow}

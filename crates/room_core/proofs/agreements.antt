@@ -5,9 +5,11 @@ pub mod Sound
 pub mod Fixing
 pub mod FixedTests
 pub mod Staying
+pub mod Inputs
 pub mod Deciding
 pub mod OwnDecisions
 pub mod Exact
 pub mod Agreed
 pub mod Promises
+pub mod OrdinaryRuns
 pub mod Lasting

@@ -5,3 +5,4 @@ pub mod Collecting
 pub mod Moments
 pub mod Contents
 pub mod Visits
+pub mod Busy

@@ -16,3 +16,6 @@ pub mod EachDecides
 pub mod Unbounded
 pub mod Observed
 pub mod Following
+pub mod AgreedInputs
+pub mod Blocked
+pub mod CertifiedReductions

@@ -1,18 +1,18 @@
 -- The agreements of a room, as its fields have them: which are clean, passed and fixed, what they show, and what the protocol asks for
 -- after them.
-use Rattle.std.specs.Prelude.{◌≡◌, ◌≢◌, ◌⊎◌, ℕ, ◌+◌, ◌-◌, ◌<◌, ◌≤◌, Bool, true, false, not, List, map, Option, Some, None, slice_index, unwrap_or, position, nat_le, nat_lt, ◌==◌, ◌&&◌, ◌||◌, if◌then◌else◌}
+use Rattle.std.specs.Prelude.{◌≡◌, ◌≢◌, ◌⊎◌, ℕ, ◌+◌, ◌-◌, ◌<◌, ◌≤◌, Bool, true, false, not, List, map, Option, Some, None, Contains, slice_index, unwrap_or, position, nat_le, nat_lt, ◌==◌, ◌&&◌, ◌||◌, if◌then◌else◌}
 use Rattle.std.specs.List.{find, list_any, range_with_len}
 use Rattle.std.specs.Option.{option_map}
 use Rattle.protocol_lang.specs.Meaning.{first_value, next_action}
 use Rattle.protocol_lang.specs.declared.meaning.Action.{Action}
 use Rattle.protocol_lang.specs.declared.meaning.Action.TheVariants as actions
-use Rattle.room_spec.specs.Rooms.{RoomSpec, processes}
+use Rattle.room_spec.specs.Rooms.{RoomSpec, is_reduction, processes, with_inputs}
 use Rattle.safe_agreement.specs.Levels.{has_level, least_two}
 use Rattle.safe_agreement.specs.Levels as agreement
 use Rattle.sim_memory.specs.Steps.{IsRowAtMost, merged_of, row_of}
 use Rattle.simulator.specs.declared.line.Line.{Line}
 use Rattle.simulator.specs.declared.line.Line.TheVariants.{Look, Leave}
-use Rattle.simulator.specs.Minds.{current_round}
+use Rattle.simulator.specs.Minds.{current_round, goal_at, has_input}
 use Rattle.room_core.specs.Fields.{Fields, StepMap, decision_in, levels_at}
 
 -- ---- what the simulators have done for a process
@@ -84,6 +84,25 @@ has_looked_blind fields i j k = leaves_blind (fields.mind i).line && (((fields.m
 abbrev pub is_fixed : RoomSpec → Fields → ℕ → ℕ → Bool
 is_fixed spec fields j k = has_level 2 (levels_at spec fields j k) && not (list_any (λ i. has_looked_blind fields i j k) (range_with_len 0 spec.simulators))
 
+-- ---- the agreement on process j's input, which a reduction has in the round 0
+
+-- A simulator has the input of process j. (That (j, 0) is resolved isn't enough: one that comes late can enter it once more, and then
+-- it isn't resolved.)
+abbrev pub is_input_known : RoomSpec → Fields → ℕ → Bool
+is_input_known spec fields j = is_reduction spec && list_any (λ i. has_input (goal_at (fields.mind i).goals j)) (range_with_len 0 spec.simulators)
+
+-- the input that was agreed on, if a simulator has it
+abbrev pub agreed_input : RoomSpec → Fields → ℕ → Option ℕ
+agreed_input spec fields j = if is_input_known spec fields j then Some (fields.value (shown_of spec fields j 0) j 0) else None
+
+-- the input that process j has in the run; one that isn't agreed on is the room's, which in a reduction is the first simulator's
+abbrev pub input_at : RoomSpec → Fields → ℕ → ℕ
+input_at spec fields j = unwrap_or (agreed_input spec fields j) (slice_index spec.inputs j)
+
+-- the ordinary room of which the history of these fields is a run
+abbrev pub run_spec : RoomSpec → Fields → RoomSpec
+run_spec spec fields = if is_reduction spec then with_inputs spec (map (input_at spec fields) (range_with_len 0 (processes spec))) else spec
+
 -- ---- what it shows
 
 -- how many writes of each process it shows
@@ -109,7 +128,7 @@ shown_by spec fields row = map (λ p. shown spec fields p (slice_index row p)) (
 
 -- what the protocol asks for after this snapshot
 abbrev pub asks : RoomSpec → Fields → ℕ → ℕ → Action
-asks spec fields j k = next_action spec.protocol (slice_index spec.inputs j) j k (shown_by spec fields (row_at spec fields j k))
+asks spec fields j k = next_action spec.protocol (input_at spec fields j) j k (shown_by spec fields (row_at spec fields j k))
 
 -- ---- where a simulator is inside it
 
@@ -134,6 +153,7 @@ pub record AgreementsStay (spec : RoomSpec) (before after : Fields) : Type 0 whe
   pub fixed : (j k : ℕ) → IsFixedAt spec before j k → IsFixedAt spec after j k
   pub same_view : (j k : ℕ) → 1 ≤ k → IsFixedAt spec before j k → view_at spec after j k ≡ view_at spec before j k
   pub same_action : (j k : ℕ) → 1 ≤ k → IsFixedAt spec before j k → asks spec after j k ≡ asks spec before j k
+  pub inputs : (j input : ℕ) → j < processes spec → agreed_input spec before j ≡ Some input → agreed_input spec after j ≡ Some input
   pub decided : (j decision : ℕ) → j < processes spec → decided_in spec before j ≡ Some decision → decided_in spec after j ≡ Some decision
   pub simulators : (i decision : ℕ) → decision_in before i ≡ Some decision → decision_in after i ≡ Some decision
 
@@ -153,8 +173,10 @@ pub record HasAgreed (spec : RoomSpec) (fields : Fields) : Type 0 where
       → DoCompare (row_at spec fields j k) (row_at spec fields p r)
   -- a row shows no write that no simulator has counted
   pub row_is_within : (j k p : ℕ) → j < processes spec → 1 ≤ k → k ≤ spec.rounds → IsFixedAt spec fields j k → p < processes spec → slice_index (row_at spec fields j k) p ≤ greatest_step spec fields p
+  -- in a reduction each input is a simulator's own
+  pub inputs_are_own : (p : ℕ) → p < processes spec → is_reduction spec ≡ true → Contains spec.own (input_at spec fields p)
   pub steps_are_within : (p : ℕ) → p < processes spec → greatest_step spec fields p ≤ spec.rounds
-  pub first_is_due : (p : ℕ) → p < processes spec → 1 ≤ greatest_step spec fields p → written spec fields p 1 ≡ first_value spec.protocol (slice_index spec.inputs p) p (processes spec)
+  pub first_is_due : (p : ℕ) → p < processes spec → 1 ≤ greatest_step spec fields p → written spec fields p 1 ≡ first_value spec.protocol (input_at spec fields p) p (processes spec)
   pub next_is_due : (p r : ℕ) → p < processes spec → 1 ≤ r → r < greatest_step spec fields p → asks spec fields p r ≡ actions.Write (written spec fields p (r + 1))
   pub decisions_agree : (i j : ℕ) → i < spec.simulators → j < processes spec → fields.out i j ≢ 0
       → (fields.step i j ≡ greatest_step spec fields j) × (asks spec fields j (fields.step i j) ≡ actions.Decide (fields.out i j - 1))

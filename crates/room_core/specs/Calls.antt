@@ -1,9 +1,10 @@
 -- A room with its quiet counts, and what one call makes of it and answers.
-use Rattle.std.specs.Prelude.{ℕ, zero, suc, ◌*◌, ◌<◌, Bool, true, false, not, List, [], ◌∷◌, map, Option, replicate, slice_index_or, slice_set, nat_le, if◌then◌else◌}
+use Rattle.std.specs.Prelude.{ℕ, zero, suc, ◌*◌, ◌<◌, Bool, true, false, not, List, [], ◌∷◌, map, Option, None, replicate, slice_index_or, slice_set, nat_le, if◌then◌else◌}
 use Rattle.std.specs.List.{range_with_len}
 use Rattle.room_spec.specs.Rooms.{RoomSpec}
 use Rattle.room_spec.specs.Sizes.{sizes_in}
 use Rattle.view_table.specs.Places.{words_of}
+use Rattle.simulator.specs.Minds.{known_input, or_else}
 use Rattle.simulator.specs.Turns.{TakenOf}
 use Rattle.simulator.specs.Ranges.{greatest_limit}
 use Rattle.simulator.specs.Quiet.{IsQuietCount}
@@ -51,6 +52,15 @@ decision_at room i = (sweep_at room i).mind.decision
 -- what each simulator has decided, by their numbers
 abbrev pub decisions_of : RoomState → List (Option ℕ)
 decisions_of room = map (decision_at room) (range_with_len 0 room.spec.simulators)
+
+-- the first that there is
+abbrev pub first_some : List (Option ℕ) → Option ℕ
+first_some [] = None
+first_some (one ∷ others) = or_else one (first_some others)
+
+-- the input of process j that was agreed on, as the first simulator that has it says
+abbrev pub input_of : RoomState → ℕ → Option ℕ
+input_of room j = first_some (map (λ i. known_input (sweep_at room i).mind j) (range_with_len 0 room.spec.simulators))
 
 -- ---- what the type of a room keeps
 

@@ -9,11 +9,11 @@ use Rattle.sim_memory.specs.Steps.{merged_of, holder_of, row_of, with_part}
 use Rattle.simulator.specs.declared.goal.Goal.{Goal}
 use Rattle.simulator.specs.declared.goal.Goal.TheVariants as goals
 use Rattle.simulator.specs.declared.line.Line.{Line}
-use Rattle.simulator.specs.declared.line.Line.TheVariants.{Rest, Raise, Snap, Show, Enter, Look, Leave, Ask, GetView, Values, Out}
+use Rattle.simulator.specs.declared.line.Line.TheVariants.{Rest, Raise, Snap, Show, Enter, Look, Leave, Ask, GetInput, GetView, Values, Out}
 use Rattle.simulator.specs.declared.sweep.Ready.{Ready}
 use Rattle.simulator.specs.declared.sweep.Ready.TheVariants as ready
 use Rattle.simulator.specs.Minds.{MindOf, opening_mind_of, goal_at, current_round, next_process, unfinished_in}
-use Rattle.simulator.specs.Turns.{TakenOf, counted, goes_on, snapped, showed, asked, got_view, got_value, decided, opened}
+use Rattle.simulator.specs.Turns.{TakenOf, counted, goes_on, snapped, showed, asked, got_input, got_view, got_value, decided, opened}
 use Rattle.simulator.specs.Sweeps.{is_resting, ready_of, quiet_after}
 use Rattle.room_core.specs.declared.reply.StepReply.{StepReply}
 use Rattle.room_core.specs.declared.reply.StepReply.TheVariants.{Crashed, NoSimulator}
@@ -28,8 +28,8 @@ abbrev pub StepMap : Type 0
 StepMap = ℕ → ℕ → ℕ
 
 -- By simulator i, process j and round k: the step numbers, the level of i in the agreement on (j, k), the step numbers that
--- i proposes to it, the value of j's write in round k as i has it, and the decision of j plus one, or 0. Then for each
--- simulator its mind, its quiet count, and whether it has crashed.
+-- i proposes to it, the value of j's write in round k as i has it (of round 0, which a reduction has, the input that i proposes for
+-- j), and the decision of j plus one, or 0. Then for each simulator its mind, its quiet count, and whether it has crashed.
 pub record Fields : Type 0 where
   pub step : StepMap
   pub level : ℕ → ℕ → ℕ → ℕ
@@ -132,6 +132,9 @@ abbrev pub first_line_at : Goal → RoomSpec → Fields → ℕ → ℕ → Mind
 first_line_at (goals.Write k value) spec fields i j mind =
     with_taken (record fields { value = changed_triple fields.value i j k value }) i (opened (Some j) None mind)
 first_line_at (goals.Ask k) spec fields i j mind = with_taken fields i (opened (Some j) (chosen_at spec fields j k) mind)
+first_line_at (goals.Propose value) spec fields i j mind =
+    with_taken (record fields { value = changed_triple fields.value i j 0 value }) i (opened (Some j) None mind)
+first_line_at goals.AskInput spec fields i j mind = with_taken fields i (opened (Some j) (chosen_at spec fields j 0) mind)
 first_line_at goals.Done spec fields i j mind = fields
 first_line_at goals.Spent spec fields i j mind = fields
 
@@ -149,6 +152,7 @@ line_on Enter spec fields i j k mind = with_taken (record fields { level = chang
 line_on Look spec fields i j k mind = with_taken fields i (goes_on (Leave (has_level 2 (levels_at spec fields j k))) mind)
 line_on (Leave saw_two) spec fields i j k mind = with_taken (record fields { level = changed_triple fields.level i j k (left_level saw_two) }) i (goes_on Ask mind)
 line_on Ask spec fields i j k mind = with_taken fields i (asked (chosen_at spec fields j k) mind)
+line_on (GetInput chosen) spec fields i j k mind = with_taken fields i (got_input spec (fields.value chosen j 0) mind)
 line_on (GetView chosen) spec fields i j k mind = with_taken fields i (got_view (entry_of_steps spec (with_loaded spec (fields.view chosen j k) mind).snapshot) spec chosen (with_loaded spec (fields.view chosen j k) mind))
 line_on Values spec fields i j k mind = with_taken fields i (got_value (entry_of_steps spec mind.snapshot) spec (shown_value spec fields mind.snapshot (length mind.entries)) mind)
 line_on (Out decision) spec fields i j k mind = with_taken (record fields { out = changed_pair fields.out i j (decision + 1) }) i (decided decision mind)

@@ -4,7 +4,7 @@ use Rattle.std.specs.List.{range_with_len}
 use Rattle.room_spec.specs.Sizes.{Sizes, memory_words, sizes_in}
 use Rattle.level_cells.specs.Fields.{level_of}
 use Rattle.level_cells.specs.Packing.{packed}
-use Rattle.view_table.specs.Places.{IsSimulator, IsProcess, IsRound, IsMemoryWord}
+use Rattle.view_table.specs.Places.{IsSimulator, IsProcess, IsRound, IsAgreementRound, IsMemoryWord}
 use Rattle.view_table.specs.Words.{word_at}
 use Rattle.view_table.specs.declared.place.Place.{Place}
 use Rattle.view_table.specs.declared.place.Place.TheVariants as places
@@ -34,6 +34,7 @@ worded sizes mind = record {
   before = memory_of sizes mind.before;
   snapshot = memory_of sizes mind.snapshot;
   entries = mind.entries;
+  inputs = mind.inputs;
   decision = mind.decision;
 }
 
@@ -45,10 +46,10 @@ pub record IsMindOf (sizes : Sizes) (mind : MindState) (field : MindOf StepMap) 
 -- the words of a room have these fields
 pub record AreWordsOf (sizes : Sizes) (words : List ℕ) (fields : Fields) : Type 0 where
   pub step : AreWordsAt sizes words places.Memory fields.step
-  pub level : (j k : ℕ) → IsProcess sizes j → IsRound sizes k → word_at sizes words (places.Levels j k) ≡ packed (λ i. fields.level i j k) 2 sizes.m
-  pub levels : (i j k : ℕ) → IsSimulator sizes i → IsProcess sizes j → IsRound sizes k → fields.level i j k ≤ 2
+  pub level : (j k : ℕ) → IsProcess sizes j → IsAgreementRound sizes k → word_at sizes words (places.Levels j k) ≡ packed (λ i. fields.level i j k) 2 sizes.m
+  pub levels : (i j k : ℕ) → IsSimulator sizes i → IsProcess sizes j → IsAgreementRound sizes k → fields.level i j k ≤ 2
   pub view : (i j k : ℕ) → IsSimulator sizes i → IsProcess sizes j → IsRound sizes k → AreWordsAt sizes words (places.View i j k) (fields.view i j k)
-  pub value : (i j k : ℕ) → IsSimulator sizes i → IsProcess sizes j → IsRound sizes k → word_at sizes words (places.Value i j k) ≡ fields.value i j k
+  pub value : (i j k : ℕ) → IsSimulator sizes i → IsProcess sizes j → IsAgreementRound sizes k → word_at sizes words (places.Value i j k) ≡ fields.value i j k
   pub out : (i j : ℕ) → IsSimulator sizes i → IsProcess sizes j → word_at sizes words (places.Out i j) ≡ fields.out i j
 
 -- the room has these fields
@@ -86,6 +87,7 @@ unworded sizes mind = record {
   before = step_in sizes mind.before;
   snapshot = step_in sizes mind.snapshot;
   entries = mind.entries;
+  inputs = mind.inputs;
   decision = mind.decision;
 }
 
@@ -115,9 +117,9 @@ pub record AreAlikeMinds (sizes : Sizes) (mind other : MindOf StepMap) : Type 0 
 -- the same at the numbers of each simulator, process and round
 pub record AgreeIn (sizes : Sizes) (fields other : Fields) : Type 0 where
   pub step : AreSameSteps sizes.m sizes.n fields.step other.step
-  pub level : (i j k : ℕ) → IsSimulator sizes i → IsProcess sizes j → IsRound sizes k → fields.level i j k ≡ other.level i j k
+  pub level : (i j k : ℕ) → IsSimulator sizes i → IsProcess sizes j → IsAgreementRound sizes k → fields.level i j k ≡ other.level i j k
   pub view : (i j k : ℕ) → IsSimulator sizes i → IsProcess sizes j → IsRound sizes k → AreSameSteps sizes.m sizes.n (fields.view i j k) (other.view i j k)
-  pub value : (i j k : ℕ) → IsSimulator sizes i → IsProcess sizes j → IsRound sizes k → fields.value i j k ≡ other.value i j k
+  pub value : (i j k : ℕ) → IsSimulator sizes i → IsProcess sizes j → IsAgreementRound sizes k → fields.value i j k ≡ other.value i j k
   pub out : (i j : ℕ) → IsSimulator sizes i → IsProcess sizes j → fields.out i j ≡ other.out i j
   pub mind : (i : ℕ) → IsSimulator sizes i → AreAlikeMinds sizes (fields.mind i) (other.mind i)
   pub quiet : (i : ℕ) → IsSimulator sizes i → fields.quiet i ≡ other.quiet i

@@ -7,7 +7,7 @@ use Rattle.sim_memory.specs.Steps.{AreWithin}
 use Rattle.simulator.specs.declared.goal.Goal.{Goal}
 use Rattle.simulator.specs.declared.goal.Goal.TheVariants as goals
 use Rattle.simulator.specs.declared.line.Line.{Line}
-use Rattle.simulator.specs.declared.line.Line.TheVariants.{Rest, Raise, Snap, Show, Enter, Look, Leave, Ask, GetView, Values, Out}
+use Rattle.simulator.specs.declared.line.Line.TheVariants.{Rest, Raise, Snap, Show, Enter, Look, Leave, Ask, GetInput, GetView, Values, Out}
 use Rattle.simulator.specs.Minds.{MindOf, goal_at}
 use Rattle.room_core.specs.Rooms.{Configuration}
 use Rattle.room_core.specs.Fields.{StepMap, Fields}
@@ -30,6 +30,7 @@ stage_of Enter = Counted
 stage_of Look = Inside
 stage_of (Leave saw_two) = Inside
 stage_of Ask = Past
+stage_of (GetInput chosen) = Past
 stage_of (GetView chosen) = Past
 stage_of Values = Past
 stage_of (Out decision) = Past
@@ -54,6 +55,16 @@ Counts rounds (goals.Ask k) Stored step = ⊥
 Counts rounds (goals.Ask k) Counted step = ⊥
 Counts rounds (goals.Ask k) Inside step = ⊥
 Counts rounds (goals.Ask k) Past step = step ≡ k
+Counts rounds (goals.Propose value) AtRest step = step ≡ 0
+Counts rounds (goals.Propose value) Stored step = ⊥
+Counts rounds (goals.Propose value) Counted step = step ≡ 0
+Counts rounds (goals.Propose value) Inside step = step ≡ 0
+Counts rounds (goals.Propose value) Past step = step ≡ 0
+Counts rounds goals.AskInput AtRest step = step ≡ 0
+Counts rounds goals.AskInput Stored step = ⊥
+Counts rounds goals.AskInput Counted step = ⊥
+Counts rounds goals.AskInput Inside step = ⊥
+Counts rounds goals.AskInput Past step = step ≡ 0
 Counts rounds goals.Done AtRest step = ⊤
 Counts rounds goals.Done stage step = ⊥
 Counts rounds goals.Spent AtRest step = step ≡ rounds
@@ -67,10 +78,19 @@ Levels Counted step level = IsZeroFrom step level × NoOneBelow step level
 Levels Inside step level = IsZeroFrom (step + 1) level × NoOneBelow step level × (level step ≡ 1)
 Levels Past step level = IsZeroFrom (step + 1) level × NoOneBelow (step + 1) level
 
+-- before it proposes an input it has entered no round, the round 0 included: as in a turn that is about to enter
+abbrev pub rest_stage : Goal → Stage
+rest_stage (goals.Propose value) = Counted
+rest_stage goal = AtRest
+
+abbrev pub levels_stage : Goal → Stage → Stage
+levels_stage goal AtRest = rest_stage goal
+levels_stage goal stage = stage
+
 -- what a goal for a process says of its step number and levels
 pub record Tells (rounds : ℕ) (goal : Goal) (stage : Stage) (step : ℕ) (level : ℕ → ℕ) : Type 0 where
   pub counts : Counts rounds goal stage step
-  pub levels : Levels stage step level
+  pub levels : Levels (levels_stage goal stage) step level
 
 -- where a mind is with a process: at rest, but for that of its open turn
 abbrev pub stage_for : {S : Type 0} → MindOf S → ℕ → Stage

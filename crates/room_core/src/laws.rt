@@ -1,13 +1,15 @@
 //! Laws of rooms, for a crate that runs one over shared words. Each is what its function ensures.
-ghost use Rattle.std.specs.Prelude.{length, slice_index, false, ℕ, ◌≡◌, ◌≢◌, ◌↔◌, ◌+◌, ◌*◌, ◌<◌, ◌≤◌, [], ◌∷◌, ◌++◌, ◌⊎◌, true, List, Some};
-ghost use Rattle.room_spec.specs.Rooms.{IsCertified, RoomSpec, IsWithinLimits, processes};
+ghost use Rattle.std.specs.Prelude.{length, slice_index, false, ℕ, ◌≡◌, ◌≢◌, ◌↔◌, ◌+◌, ◌*◌, ◌<◌, ◌≤◌, [], ◌∷◌, ◌++◌, ◌⊎◌, true, List, Some, Contains};
+ghost use Rattle.std.specs.List.{filter, range_with_len};
+ghost use Rattle.room_spec.specs.Rooms.{IsCertified, RoomSpec, IsWithinLimits, is_reduction, processes};
 ghost use Rattle.safe_agreement.specs.Levels.{IsClean, least_two};
 ghost use Rattle.room_core.specs.Contents.{IsDue};
-ghost use Rattle.room_core.specs.Agreements.{AgreementsStay, DoCompare, HasAgreed, IsDecisionOf, IsFixedAt, IsInsideTurn, asks, decided_in, greatest_step, has_out, is_clean, is_fixed, is_passed, row_at, shown_of, view_at};
+ghost use Rattle.room_core.specs.Agreements.{AgreementsStay, DoCompare, HasAgreed, IsDecisionOf, IsFixedAt, IsInsideTurn, agreed_input, asks, decided_in, greatest_step, has_out, input_at, is_clean, is_fixed, is_input_known, is_passed, row_at, run_spec, shown_of, view_at};
 ghost use Rattle.protocol_lang.specs.Numbers.{greatest};
 ghost use Rattle.protocol_lang.specs.declared.meaning.Action.TheVariants.{Decide, Write};
-ghost use Rattle.simulator.specs.Minds.{goal_at};
-ghost use Rattle.simulator.specs.declared.goal.Goal.TheVariants.{Spent};
+ghost use Rattle.simulator.specs.Bounds.{agreement_rounds};
+ghost use Rattle.simulator.specs.Minds.{goal_at, has_input, known_input};
+ghost use Rattle.simulator.specs.declared.goal.Goal.TheVariants.{AskInput, Spent};
 ghost use Rattle.room_core.specs.Moments.{IsMoment, IsScan, fields_at};
 ghost use Rattle.room_core.specs.Counting.{events_so_far};
 ghost use Rattle.room_core.specs.Observing.{Follow, steps_of_settling, steps_of_steps};
@@ -16,11 +18,11 @@ ghost use Rattle.room_core.specs.Points.{AreEffects, Decides, HasFixed, Point, S
 ghost use Rattle.room_core.specs.RealTime.{HasBegun, HasEnded, IsOperation, Precedes};
 ghost use Rattle.room_core.specs.Timelines.{IsTimeline, timeline_of};
 ghost use Rattle.simulator.specs.Minds.{current_round};
-ghost use Rattle.simulator.specs.declared.line.Line.TheVariants.{Rest, Show};
-ghost use Rattle.room_core.specs.Settled.{HasTurnLeft, IsDecidedOrHeld, IsSettledFor, IsSettledInMind, crashed_in, is_out_of_rounds, out_of_rounds_in, unfinished_for};
+ghost use Rattle.simulator.specs.declared.line.Line.TheVariants.{Out, Raise, Rest, Show};
+ghost use Rattle.room_core.specs.Settled.{HasTurnLeft, IsDecidedOrHeld, IsSettledFor, IsSettledInMind, blocked_in, crashed_in, is_blocked, is_out_of_rounds, out_of_rounds_in, unfinished_for};
 ghost use Rattle.room_core.specs.Settling.{steps_while};
 ghost use Rattle.simulator.specs.Sweeps.{is_resting};
-ghost use Rattle.room_core.specs.Calls.{Call, RoomState, configuration_of, decision_at, has_crashed, marked, step_bound, moved, opening_state, replies_to, room_after_calls, room_after_settle, room_after_step, room_after_steps, room_kind, step_reply, sweep_at, with_sweep, woken};
+ghost use Rattle.room_core.specs.Calls.{Call, RoomState, configuration_of, decision_at, has_crashed, input_of, marked, step_bound, moved, opening_state, replies_to, room_after_calls, room_after_settle, room_after_step, room_after_steps, room_kind, step_reply, sweep_at, with_sweep, woken};
 ghost use Rattle.room_core.specs.Fields.{Fields, HasLineIn, IsLegalIn, decision_in, levels_at, line, entry_of_steps, fields_after_call, fields_after_calls, fields_after_settle, opening_fields, replay_fields, replies_in, row_of_steps, with_crash};
 ghost use Rattle.room_spec.specs.Sizes.{sizes_in};
 ghost use Rattle.room_core.specs.Reading.{AgreeIn, AreFieldsOf, Reads, fields_in};
@@ -144,6 +146,58 @@ pub fn all_before_are_passed()
         is_passed room.spec fields j k ≡ true }
 {}
 
+/// In a reduction the input of a process that a simulator has was agreed on, and is a simulator's own. All that have it have the same.
+/// In an ordinary room no input is agreed on.
+pub fn inputs_are_agreed()
+    ensures fixed { (room : RoomState) (fields : Fields) →
+        IsWithinLimits room.spec → AreFieldsOf room fields → (j : ℕ) → j < processes room.spec → is_input_known room.spec fields j ≡ true →
+        IsFixedAt room.spec fields j 0 }
+    ensures own { (room : RoomState) (fields : Fields) →
+        IsWithinLimits room.spec → AreFieldsOf room fields → (j input : ℕ) → j < processes room.spec →
+        agreed_input room.spec fields j ≡ Some input →
+        Contains room.spec.own input }
+    ensures minds { (room : RoomState) (fields : Fields) →
+        IsWithinLimits room.spec → AreFieldsOf room fields → (i j input : ℕ) → i < room.spec.simulators →
+        known_input (fields.mind i) j ≡ Some input →
+        agreed_input room.spec fields j ≡ Some input }
+    // That is what the room answers.
+    ensures room { (room : RoomState) (fields : Fields) →
+        IsWithinLimits room.spec → AreFieldsOf room fields → (j : ℕ) → j < processes room.spec →
+        input_of room j ≡ agreed_input room.spec fields j }
+    // A process that has made a write, and so one that has decided, has an input.
+    ensures written { (room : RoomState) (fields : Fields) →
+        IsWithinLimits room.spec → AreFieldsOf room fields → (j : ℕ) → j < processes room.spec → is_reduction room.spec ≡ true →
+        1 ≤ greatest_step room.spec fields j →
+        is_input_known room.spec fields j ≡ true }
+    ensures decided { (room : RoomState) (fields : Fields) →
+        IsWithinLimits room.spec → AreFieldsOf room fields → (j : ℕ) → j < processes room.spec → is_reduction room.spec ≡ true →
+        has_out room.spec fields j ≡ true →
+        is_input_known room.spec fields j ≡ true }
+    // Whatever is called, an input stays.
+    ensures stays { (room : RoomState) (calls : List Call) (j input : ℕ) →
+        IsWithinLimits room.spec → IsOneInterleaving (configuration_of room) → j < processes room.spec → input_of room j ≡ Some input →
+        input_of (room_after_calls room calls) j ≡ Some input }
+{}
+
+/// What was agreed on in a room is what makes a history a run of an ordinary room: of the room itself, or of that in which the
+/// processes of a reduction have the inputs that were agreed on.
+pub fn runs_are_of_ordinary_rooms()
+    ensures agreed { (room : RoomState) (fields : Fields) → IsWithinLimits room.spec → AreFieldsOf room fields → HasAgreed (run_spec room.spec fields) fields }
+    ensures limits { (room : RoomState) (fields : Fields) → IsWithinLimits room.spec → AreFieldsOf room fields → IsWithinLimits (run_spec room.spec fields) }
+    ensures kind { (spec : RoomSpec) (fields : Fields) → is_reduction (run_spec spec fields) ≡ false }
+    ensures processes { (spec : RoomSpec) (fields : Fields) → processes (run_spec spec fields) ≡ processes spec }
+    ensures inputs { (spec : RoomSpec) (fields : Fields) (j : ℕ) → j < processes spec → slice_index (run_spec spec fields).inputs j ≡ input_at spec fields j }
+    ensures asks { (spec : RoomSpec) (fields : Fields) (j k : ℕ) → j < processes spec → asks (run_spec spec fields) fields j k ≡ asks spec fields j k }
+    ensures ordinary { (spec : RoomSpec) (fields : Fields) → is_reduction spec ≡ false → run_spec spec fields ≡ spec }
+{}
+
+/// At most as many processes are blocked as simulators have crashed: a simulator crashes inside at most one agreement.
+pub fn few_are_blocked()
+    ensures { (room : RoomState) (fields : Fields) →
+        IsWithinLimits room.spec → AreFieldsOf room fields →
+        length (blocked_in room.spec fields) ≤ length (crashed_in room.spec fields) }
+{}
+
 /// What a simulator has decided is a decision of a process that it has stored, and one that has stored none hasn't decided.
 pub fn simulators_decide()
     ensures stored { (room : RoomState) (fields : Fields) →
@@ -182,8 +236,8 @@ pub fn agreements_last()
 {}
 
 /// While no other simulator steps, a simulator that hasn't crashed reaches the end of its open turn, and
-/// where it goes on to an end, idle or out of turns, within `(n * rounds + 1) * n` turns. So the
-/// number of steps at which settling gives up is never reached.
+/// where it goes on to an end, idle or out of turns, within `(n * rounds + 1) * n` turns; in a reduction
+/// the agreement on a process's input is one round more. So the number of steps at which settling gives up is never reached.
 pub fn runs_end()
     ensures turn { (room : RoomState) (i : ℕ) →
         IsWithinLimits room.spec → IsOneInterleaving (configuration_of room) → i < room.spec.simulators → has_crashed room i ≡ false →
@@ -194,16 +248,23 @@ pub fn runs_end()
     ensures turns { (room : RoomState) (i most : ℕ) →
         IsWithinLimits room.spec → IsOneInterleaving (configuration_of room) → i < room.spec.simulators → has_crashed room i ≡ false →
         (sweep_at (steps_while room_after_step room_kind.has_step most room i) i).mind.turns ≤ (sweep_at room i).mind.turns +
-        (processes room.spec * room.spec.rounds + 1) * processes room.spec }
+        (processes room.spec * agreement_rounds (sizes_in room.spec) + 1) * processes room.spec }
 {}
 
 /// An agreement that was left, and in which no simulator is at level 1, is clean: only a simulator that
 /// stopped inside can hold it.
 pub fn left_is_clean()
-    ensures { (room : RoomState) (fields : Fields) →
+    ensures snapshots { (room : RoomState) (fields : Fields) →
         IsWithinLimits room.spec → AreFieldsOf room fields → (i j k : ℕ) → i < room.spec.simulators → 1 ≤ k → k < fields.step i j →
         ((a : ℕ) → a < room.spec.simulators → fields.level a j k ≢ 1) →
         IsClean (levels_at room.spec fields j k) }
+    // So is that on an input, if a simulator asks what it is, or has it.
+    ensures inputs { (room : RoomState) (fields : Fields) →
+        IsWithinLimits room.spec → AreFieldsOf room fields → (i j : ℕ) → i < room.spec.simulators → j < processes room.spec →
+        is_reduction room.spec ≡ true →
+        (goal_at (fields.mind i).goals j ≡ AskInput) ⊎ (has_input (goal_at (fields.mind i).goals j) ≡ true) →
+        ((a : ℕ) → a < room.spec.simulators → fields.level a j 0 ≢ 1) →
+        IsClean (levels_at room.spec fields j 0) }
 {}
 
 /// The proposals that are kept, of whatever agreements, are snapshots of one simulated memory.
@@ -275,7 +336,7 @@ pub fn values_in_range()
 
 /// After settling, where a simulator that hasn't crashed has a turn left, each process has decided,
 /// or has made all its writes and is asked for one more, or is held by a simulator that has crashed
-/// inside an agreement on one of its snapshots. And everyone else is between two turns.
+/// inside an agreement on one of its snapshots, or in a reduction on its input. And everyone else is between two turns.
 pub fn settles()
     ensures settled { (room : RoomState) (fields : Fields) →
         IsWithinLimits room.spec → AreFieldsOf room fields → HasTurnLeft room.spec (fields_after_settle room.spec fields) → (j : ℕ) →
@@ -383,17 +444,18 @@ pub fn schedules_are_counted()
     ensures { (room : Configuration) → IsWithinLimits room.spec → (one : IsOneInterleaving room) → length one.schedule ≡ events_so_far room }
 {}
 
-/// A step counts a write of no process but that of its turn, and stores no decision of another; the first step of a turn does neither.
+/// A step counts a write of no process but that of its turn, and only at the line that raises its step number. It stores a decision of no
+/// process but that, and only at the line that does so.
 pub fn steps_are_of_one_process()
     ensures counts { (room : Configuration) →
         IsWithinLimits room.spec → (one : IsOneInterleaving room) (i : ℕ) → HasLine room i → (p : ℕ) →
-        (((replay_fields room.spec (opening_fields room.spec) one.schedule).mind i).line ≡ Rest) ⊎
+        (((replay_fields room.spec (opening_fields room.spec) one.schedule).mind i).line ≢ Raise) ⊎
         (p ≢ ((replay_fields room.spec (opening_fields room.spec) one.schedule).mind i).process) →
         greatest_step room.spec (replay_fields room.spec (opening_fields room.spec) (one.schedule ++ steps i ∷ [])) p ≡
         greatest_step room.spec (replay_fields room.spec (opening_fields room.spec) one.schedule) p }
     ensures stores { (room : Configuration) →
         IsWithinLimits room.spec → (one : IsOneInterleaving room) (i : ℕ) → HasLine room i → (p : ℕ) →
-        (((replay_fields room.spec (opening_fields room.spec) one.schedule).mind i).line ≡ Rest) ⊎
+        ((decision : ℕ) → ((replay_fields room.spec (opening_fields room.spec) one.schedule).mind i).line ≢ Out decision) ⊎
         (p ≢ ((replay_fields room.spec (opening_fields room.spec) one.schedule).mind i).process) →
         has_out room.spec (replay_fields room.spec (opening_fields room.spec) (one.schedule ++ steps i ∷ [])) p ≡
         has_out room.spec (replay_fields room.spec (opening_fields room.spec) one.schedule) p }
@@ -413,31 +475,53 @@ pub fn taken_steps_follow()
     ensures settling { (room : RoomState) → Follow (configuration_of room) (steps_of_settling room) (configuration_of (room_after_settle room)) }
 {}
 
-/// A simulator counts the first write of each process before the second of any, since its sweep goes round. So what was agreed on in
-/// a later round shows every process.
+/// In an ordinary room a simulator counts the first write of each process before the second of any, since its sweep goes round. So what
+/// was agreed on in a later round shows every process. (In a reduction a process whose input isn't agreed on makes no write.)
 pub fn later_rounds_show_all()
     ensures proposals { (room : RoomState) (fields : Fields) →
-        IsWithinLimits room.spec → AreFieldsOf room fields → (i j k p : ℕ) → i < room.spec.simulators → j < processes room.spec →
+        IsWithinLimits room.spec → AreFieldsOf room fields → is_reduction room.spec ≡ false → (i j k p : ℕ) → i < room.spec.simulators → j < processes room.spec →
         p < processes room.spec → 2 ≤ k → fields.level i j k ≡ 2 →
         1 ≤ fields.view i j k i p }
     ensures agreed { (room : RoomState) (fields : Fields) →
-        IsWithinLimits room.spec → AreFieldsOf room fields → (j k p : ℕ) → j < processes room.spec → p < processes room.spec → 2 ≤ k →
+        IsWithinLimits room.spec → AreFieldsOf room fields → is_reduction room.spec ≡ false → (j k p : ℕ) → j < processes room.spec →
+        p < processes room.spec → 2 ≤ k →
         IsFixedAt room.spec fields j k →
         1 ≤ slice_index (row_at room.spec fields j k) p }
 {}
 
-/// In a room of a protocol by which each process waits for all but f, with two rounds or more, no process is spent: what was agreed on
+/// In an ordinary room of a protocol by which each process waits for all but f, with two rounds or more, no process is spent: what was agreed on
 /// in its last round shows all, and so asks for a decision.
 pub fn certified_rooms_decide()
     ensures unspent { (room : RoomState) (fields : Fields) →
-        IsWithinLimits room.spec → AreFieldsOf room fields → (f : ℕ) → IsCertified room.spec f → (j value : ℕ) → 2 ≤ room.spec.rounds →
+        IsWithinLimits room.spec → AreFieldsOf room fields → (f : ℕ) → IsCertified room.spec f → is_reduction room.spec ≡ false → (j value : ℕ) → 2 ≤ room.spec.rounds →
         j < processes room.spec → is_clean room.spec fields j room.spec.rounds ≡ true →
         asks room.spec fields j room.spec.rounds ≡ Write value →
         ⊥ }
     ensures settled { (room : RoomState) (fields : Fields) →
-        IsWithinLimits room.spec → AreFieldsOf room fields → (f : ℕ) → IsCertified room.spec f → (j : ℕ) → 2 ≤ room.spec.rounds →
+        IsWithinLimits room.spec → AreFieldsOf room fields → (f : ℕ) → IsCertified room.spec f → is_reduction room.spec ≡ false → (j : ℕ) → 2 ≤ room.spec.rounds →
         j < processes room.spec → IsSettledFor room.spec fields j →
         IsDecidedOrHeld room.spec fields j }
+{}
+
+/// In a reduction of such a protocol, with f + 1 simulators or fewer and two rounds or more, no process is spent either: each process for which a
+/// simulator has proposed an input has made a write, or some simulator works on it, so what was agreed on in a later round shows all but fewer
+/// processes than there are simulators. So once each process has settled, all have decided but for at most as many as simulators have crashed.
+pub fn certified_reductions_decide()
+    ensures unspent { (room : RoomState) (fields : Fields) →
+        IsWithinLimits room.spec → AreFieldsOf room fields → is_reduction room.spec ≡ true → (f : ℕ) → IsCertified room.spec f →
+        room.spec.simulators ≤ f + 1 → (j value : ℕ) → 2 ≤ room.spec.rounds → j < processes room.spec →
+        is_clean room.spec fields j room.spec.rounds ≡ true →
+        asks room.spec fields j room.spec.rounds ≡ Write value →
+        ⊥ }
+    ensures settled { (room : RoomState) (fields : Fields) →
+        IsWithinLimits room.spec → AreFieldsOf room fields → is_reduction room.spec ≡ true → (f : ℕ) → IsCertified room.spec f →
+        room.spec.simulators ≤ f + 1 → (j : ℕ) → 2 ≤ room.spec.rounds → j < processes room.spec → IsSettledFor room.spec fields j →
+        (has_out room.spec fields j ≡ true) ⊎ (is_blocked room.spec fields j ≡ true) }
+    ensures most { (room : RoomState) (fields : Fields) →
+        IsWithinLimits room.spec → AreFieldsOf room fields → is_reduction room.spec ≡ true → (f : ℕ) → IsCertified room.spec f →
+        room.spec.simulators ≤ f + 1 → 2 ≤ room.spec.rounds →
+        ((j : ℕ) → j < processes room.spec → IsSettledFor room.spec fields j) →
+        processes room.spec ≤ length (filter (λ j. has_out room.spec fields j) (range_with_len 0 (processes room.spec))) + length (crashed_in room.spec fields) }
 {}
 
 /// In a room of a protocol by which each process waits for all but f, more than f processes aren't out of rounds, at any moment. A
@@ -453,7 +537,7 @@ pub fn few_are_spent()
 {}
 
 /// After settling, for each simulator that hasn't crashed and has a turn left: as it knows each process, that has decided or is out of
-/// rounds, or it waits for a snapshot of it inside whose agreement another has crashed; and it waits for at most as many as have crashed.
+/// rounds, or it waits for a snapshot of it, or in a reduction for its input, inside whose agreement another has crashed; and it waits for at most as many as have crashed.
 /// So, by a protocol by which each process waits for all but f, it has decided if at most f have crashed.
 pub fn each_is_settled_for()
     ensures each { (room : RoomState) (fields : Fields) →
@@ -467,5 +551,10 @@ pub fn each_is_settled_for()
     ensures decides { (room : RoomState) (fields : Fields) →
         IsWithinLimits room.spec → AreFieldsOf room fields → (left : HasTurnLeft room.spec (fields_after_settle room.spec fields)) → (f : ℕ) →
         IsCertified room.spec f → length (crashed_in room.spec (fields_after_settle room.spec fields)) ≤ f →
+        (decision : ℕ) × (decision_in (fields_after_settle room.spec fields) left.simulator ≡ Some decision) }
+    // So with f + 1 simulators or fewer it has decided, however many of the others have crashed.
+    ensures others_crash { (room : RoomState) (fields : Fields) →
+        IsWithinLimits room.spec → AreFieldsOf room fields → (left : HasTurnLeft room.spec (fields_after_settle room.spec fields)) → (f : ℕ) →
+        IsCertified room.spec f → room.spec.simulators ≤ f + 1 →
         (decision : ℕ) × (decision_in (fields_after_settle room.spec fields) left.simulator ≡ Some decision) }
 {}

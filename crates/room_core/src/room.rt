@@ -1,7 +1,8 @@
 //! A room.
-ghost use Rattle.std.specs.Prelude.{List, Some, ℕ, ◌≡◌, ◌≢◌, ◌<◌, ◌≤◌, false, length, map, replicate, slice_index, IfErr, IfOk};
+ghost use Rattle.std.specs.Prelude.{List, Some, ℕ, ◌≡◌, ◌≢◌, ◌<◌, ◌≤◌, Contains, false, length, map, replicate, slice_index, IfErr, IfOk};
 ghost use Rattle.std.specs.List.{range_with_len};
 ghost use Rattle.std.specs.Allocator.{alloc_error};
+ghost use Rattle.room_spec.specs.Rooms.{processes};
 ghost use Rattle.room_spec.specs.Sizes.{sizes_in};
 ghost use Rattle.view_table.specs.Places.{words_of};
 ghost use Rattle.simulator.specs.Minds.{current_round, goal_at};
@@ -16,10 +17,10 @@ ghost use Rattle.simulator.specs.declared.turn.Turn.{Turn};
 ghost use Rattle.room_core.specs.declared.reply.StepReply.TheVariants as replies;
 ghost use Rattle.room_core.specs.Rooms.{IsAlive, IsOneInterleaving, IsRoom, IsShaped, mind_at, times};
 ghost use Rattle.room_core.specs.Fields.{Fields, IsLegalIn, crash_reply_in, decision_in, fields_after_crash, fields_after_step, fields_after_steps, opening_fields, step_reply_in};
-ghost use Rattle.room_core.specs.Agreements.{AgreementsStay, IsDecisionOf};
+ghost use Rattle.room_core.specs.Agreements.{AgreementsStay, IsDecisionOf, agreed_input};
 ghost use Rattle.room_core.specs.Moments.{IsScan};
 ghost use Rattle.room_core.specs.Reading.{AreFieldsOf, Reads};
-ghost use Rattle.room_core.specs.Calls.{Call, CountsQuietTurns, crash_reply, configuration_of, decision_at, decisions_of, has_crashed, marked, opening_state, ready_at, room_after_calls, room_after_crash, room_after_step, room_after_steps, step_reply, sweep_at, with_sweep, woken};
+ghost use Rattle.room_core.specs.Calls.{Call, CountsQuietTurns, crash_reply, configuration_of, decision_at, decisions_of, has_crashed, input_of, marked, opening_state, ready_at, room_after_calls, room_after_crash, room_after_step, room_after_steps, step_reply, sweep_at, with_sweep, woken};
 
 use crate::reply::{CrashReply, StepReply};
 use crate::room_words::RoomWords;
@@ -174,6 +175,31 @@ impl RoomCore {
             return None;
         }
         self.mind(i).decision()
+    }
+
+    /// The input of process `j` that was agreed on, if a simulator has it. `None` before that, if the room has no such process, and in an ordinary
+    /// room, which gives each process its input. It is final.
+    pub fn input(&self, j: usize) -> Option<u32>
+        ensures value { result ≡ input_of self.now j }
+        // It was agreed on, and is a simulator's own.
+        ensures agreed { (fields : Fields) → AreFieldsOf self.now fields → j < processes self.now.spec → result ≡ agreed_input self.now.spec fields j }
+        ensures own { (input : ℕ) → result ≡ Some input → Contains self.now.spec.own input }
+        // Whatever is called later, it stays.
+        ensures stays { (calls : List Call) (input : ℕ) → result ≡ Some input → input_of (room_after_calls self.now calls) j ≡ Some input }
+    {
+        let _ = &self.spec; // for the proof: what the type of a room says
+        self.first_input(j)
+    }
+
+    fn first_input(&self, j: usize) -> Option<u32>
+        ensures { result ≡ input_of self.now j }
+    {
+        for i in 0..self.spec.m() {
+            if let Some(input) = self.mind(i).input(j) {
+                return Some(input);
+            }
+        }
+        None
     }
 
     /// What each simulator has decided, by their numbers.

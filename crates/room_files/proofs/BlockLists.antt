@@ -1,10 +1,11 @@
 -- Rooms with their blocks, one by one.
 use Rattle.std.proofs.Common.{◌≡◌, ◌<◌, ℕ, get_or, zero, suc, List, [], ◌∷◌, ◌++◌, Ok, length, refl, ap, arith}
-use Rattle.room_spec.specs.Blocks.{block_in}
 use Rattle.room_spec.specs.Rooms.{RoomSpec}
 use Rattle.room_files.specs.BlockLists.{AreBlocks, IsBlockAt}
+use Rattle.room_files.specs.Kinds.{block_of}
+use Rattle.room_files.specs.declared.kinds.Kinds.TheVariants.{All}
 
-pub one_block_more : (specs : List RoomSpec) (blocks : List (List ℕ)) (spec : RoomSpec) (block : List ℕ) → AreBlocks specs blocks → block_in block ≡ Ok (spec, length block) → AreBlocks (specs ++ spec ∷ []) (blocks ++ block ∷ [])
+pub one_block_more : (specs : List RoomSpec) (blocks : List (List ℕ)) (spec : RoomSpec) (block : List ℕ) → AreBlocks specs blocks → block_of All block ≡ Ok (spec, length block) → AreBlocks (specs ++ spec ∷ []) (blocks ++ block ∷ [])
 one_block_more [] [] spec block are says = (says, tt)
 one_block_more (one ∷ specs) (other ∷ blocks) spec block are says = (are.0, one_block_more specs blocks spec block are.1 says)
 one_block_more [] (other ∷ blocks) spec block are says = absurd are

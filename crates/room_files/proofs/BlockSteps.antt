@@ -15,6 +15,7 @@ use Rattle.room_spec.specs.Grammar.{EndsAt, text_of}
 use Rattle.history_checker.specs.Verdicts.{has_room}
 use Rattle.room_files.specs.Blocks.{Setup, refuse, open_room, after_block, block_extent, or_all, IsFaultOr}
 use Rattle.room_files.specs.Faults.{FaultAt}
+use Rattle.room_files.specs.declared.kinds.Kinds.{Kinds}
 use Rattle.room_files.specs.Inputs.{all_blocks_from, blocks_from, later_events, BeginsWithBlock}
 use Rattle.room_files.specs.declared.fault.InputFault.{InputFault}
 use Rattle.room_files.specs.declared.fault.InputFault.TheVariants.{BadInput, Memory}
@@ -50,11 +51,11 @@ line_bound text n m line now most is within passed before =
     let taken = length-take-le n text within in
     rw (behind text n m is, length-drop n text) (omega arith)
 
-pub step_blocks : (most : ℕ) (setup now : Setup) (rest later : List ℕ) (len : ℕ) → length rest ≤ most → 0 < len → len ≤ length rest → bytes_eq (first_line rest) (codes "events") ≡ false → block_len rest ≡ Some len
-    → now ≡ after_block setup (take len rest) → later ≡ drop len rest → (fewer : ℕ) × (length later ≤ fewer) × (blocks_from (suc most) setup rest ≡ blocks_from (suc fewer) now later)
+pub step_blocks : (kinds : Kinds) (most : ℕ) (setup now : Setup) (rest later : List ℕ) (len : ℕ) → length rest ≤ most → 0 < len → len ≤ length rest → bytes_eq (first_line rest) (codes "events") ≡ false → block_len rest ≡ Some len
+    → now ≡ after_block kinds setup (take len rest) → later ≡ drop len rest → (fewer : ℕ) × (length later ≤ fewer) × (blocks_from kinds (suc most) setup rest ≡ blocks_from kinds (suc fewer) now later)
 unfolding blocks_from
-step_blocks zero setup now rest later len most some within other found now_is later_is = absurd (omega arith)
-step_blocks (suc fewer) setup now rest later len most some within other found now_is later_is =
+step_blocks kinds zero setup now rest later len most some within other found now_is later_is = absurd (omega arith)
+step_blocks kinds (suc fewer) setup now rest later len most some within other found now_is later_is =
     (fewer, rw (later_is, length-drop len rest) (omega arith), rw (other, found, now_is, later_is) refl)
 
 -- a room whose name is taken is refused
@@ -98,23 +99,23 @@ pub bytes_left : (n : ℕ) (empty : Bool) → empty ≡ (n == 0) → empty ≡ f
 bytes_left zero empty is other = absurd cc
 bytes_left (suc n) empty is other = omega arith
 
-pub step_all : (most : ℕ) (setup now : Setup) (rest later : List ℕ) (extent : ℕ) → length rest ≤ most → 0 < length rest → extent ≡ block_extent rest → 0 < extent → extent ≤ length rest
-    → now ≡ after_block setup (take extent rest) → later ≡ drop extent rest → (fewer : ℕ) × (length later ≤ fewer) × (all_blocks_from most setup rest ≡ all_blocks_from fewer now later)
+pub step_all : (kinds : Kinds) (most : ℕ) (setup now : Setup) (rest later : List ℕ) (extent : ℕ) → length rest ≤ most → 0 < length rest → extent ≡ block_extent rest → 0 < extent → extent ≤ length rest
+    → now ≡ after_block kinds setup (take extent rest) → later ≡ drop extent rest → (fewer : ℕ) × (length later ≤ fewer) × (all_blocks_from kinds most setup rest ≡ all_blocks_from kinds fewer now later)
 unfolding all_blocks_from
-step_all most setup now [] later extent most_is some is positive within now_is later_is = absurd (omega arith)
-step_all zero setup now (byte ∷ bytes) later extent most_is some is positive within now_is later_is = absurd (omega arith)
-step_all (suc fewer) setup now (byte ∷ bytes) later extent most_is some is positive within now_is later_is =
+step_all kinds most setup now [] later extent most_is some is positive within now_is later_is = absurd (omega arith)
+step_all kinds zero setup now (byte ∷ bytes) later extent most_is some is positive within now_is later_is = absurd (omega arith)
+step_all kinds (suc fewer) setup now (byte ∷ bytes) later extent most_is some is positive within now_is later_is =
     (fewer, rw (later_is, length-drop extent (byte ∷ bytes)) (omega arith), rw (now_is, later_is, is) refl)
 
-pub all_taken : (most : ℕ) (setup : Setup) (rest : List ℕ) → length rest ≡ 0 → all_blocks_from most setup rest ≡ setup
+pub all_taken : (kinds : Kinds) (most : ℕ) (setup : Setup) (rest : List ℕ) → length rest ≡ 0 → all_blocks_from kinds most setup rest ≡ setup
 unfolding all_blocks_from
-all_taken zero setup rest none = refl
-all_taken (suc most) setup [] none = refl
-all_taken (suc most) setup (byte ∷ bytes) none = absurd (omega arith)
+all_taken kinds zero setup rest none = refl
+all_taken kinds (suc most) setup [] none = refl
+all_taken kinds (suc most) setup (byte ∷ bytes) none = absurd (omega arith)
 
 -- what is left has no line `end`, and is refused whole
-pub rest_refused : (most : ℕ) (setup now : Setup) (rest : List ℕ) → length rest ≤ most → 0 < length rest → block_len rest ≡ None → now ≡ after_block setup rest → all_blocks_from most setup rest ≡ now
-rest_refused most setup now rest most_is some none now_is =
+pub rest_refused : (kinds : Kinds) (most : ℕ) (setup now : Setup) (rest : List ℕ) → length rest ≤ most → 0 < length rest → block_len rest ≡ None → now ≡ after_block kinds setup rest → all_blocks_from kinds most setup rest ≡ now
+rest_refused kinds most setup now rest most_is some none now_is =
     let whole : take (length rest) rest ≡ rest = take_all (length rest) rest (omega arith) in
-    let next = step_all most setup now rest [] (length rest) most_is some (sym (ap (or_all rest) none)) some (omega arith) (now_is ∙ ap (after_block setup) (sym whole)) (sym (drop_all (length rest) rest (omega arith))) in
-    next.2 ∙ all_taken next.0 now [] refl
+    let next = step_all kinds most setup now rest [] (length rest) most_is some (sym (ap (or_all rest) none)) some (omega arith) (now_is ∙ ap (after_block kinds setup) (sym whole)) (sym (drop_all (length rest) rest (omega arith))) in
+    next.2 ∙ all_taken kinds next.0 now [] refl

@@ -12,6 +12,7 @@ use Rattle.room_files.specs.Blocks.{Setup, IsFaultOr}
 use Rattle.room_files.specs.Faults.{FaultAt, of_fed}
 use Rattle.room_files.specs.Lines.{text_lines}
 use Rattle.room_files.specs.Inputs.{blocks_in, later_events, fed_from, input_says, of_known_room, then_fed, with_fed}
+use Rattle.room_files.specs.declared.kinds.Kinds.{Kinds}
 
 -- what became of a line, by its parts
 pub line_fed : (rooms after : List RoomState) (line : ℕ) (parts : LineParts) (fed : HasFed parts line rooms after) → of_known_room (specs_of rooms) line (line_said parts) ≡ Ok fed.one
@@ -41,5 +42,5 @@ fault_fed memory rooms fed line text texts whole Memory is lacks = lacks
 fault_fed memory rooms fed line text texts whole (BadInput at wrong) is bad = is ∙ fed_fault rooms fed line text texts (at, wrong) bad
 
 -- what an input says, by its blocks and the events behind them
-pub said : (input : List ℕ) (setup : Setup) (transcript : List ℕ) (fed : List FedEvent) → blocks_in input ≡ Ok (setup, transcript) → fed_from setup.rooms [] setup.line (text_lines transcript) ≡ Ok fed → input_says input ≡ Ok (setup, fed)
-said input setup transcript fed read reported = ap later_events read ∙ ap (with_fed setup) reported
+pub said : (kinds : Kinds) (input : List ℕ) (setup : Setup) (transcript : List ℕ) (fed : List FedEvent) → blocks_in kinds input ≡ Ok (setup, transcript) → fed_from setup.rooms [] setup.line (text_lines transcript) ≡ Ok fed → input_says kinds input ≡ Ok (setup, fed)
+said kinds input setup transcript fed read reported = ap later_events read ∙ ap (with_fed setup) reported

@@ -1,3 +1,4 @@
+mod AllKinds
 mod BlockSteps
 mod BlockEnds
 pub mod CallerLemmas

@@ -11,7 +11,7 @@ use Rattle.std.proofs.lemmas.List.Splits.{length-slice_split, slice_split_first}
 use Rattle.std.proofs.lemmas.Slice.Eq.{bytes_eq-Decides}
 use Rattle.room_spec.specs.Rooms.{RoomSpec}
 use Rattle.room_spec.specs.Texts.{is_line_end, first_line, later_lines, lines_of}
-use Rattle.room_spec.specs.Blocks.{body_len, block_len, block_in}
+use Rattle.room_spec.specs.Blocks.{body_len, block_len}
 use Rattle.room_spec.specs.Grammar.{line_end, text_of, are_before_end}
 use Rattle.room_spec.specs.declared.fault.SpecFault.{SpecFault}
 use Rattle.room_spec.proofs.CallerLemmas.{end_found, end_at, lines_to_end, with_line_end, before_line, before_cut, text_of-cons, pieces_whole}
@@ -22,6 +22,8 @@ use Rattle.history_checker.specs.Verdicts.{FedEvent, has_room}
 use Rattle.room_files.specs.Lines.{lines_in, text_lines}
 use Rattle.room_files.specs.Blocks.{Setup, no_blocks, refuse, open_room, open_block, pass_lines, after_block, fault_text, refused_line}
 use Rattle.room_files.specs.Faults.{FaultAt}
+use Rattle.room_files.specs.Kinds.{block_of}
+use Rattle.room_files.specs.declared.kinds.Kinds.{Kinds}
 use Rattle.room_files.specs.declared.fault.TextFault.{TextFault}
 use Rattle.room_files.specs.declared.fault.TextFault.TheVariants.{NoEvents}
 use Rattle.room_files.specs.Inputs.{next_block, blocks_from, blocks_in, of_known_room, then_fed, fed_from, with_fed, later_events, input_says}
@@ -124,18 +126,18 @@ front_of rest len found =
 -- ---- the blocks
 
 -- the blocks up to the text `rest` say this
-record Reached (input : List ℕ) (setup : Setup) (rest : List ℕ) : Type 0 where
+record Reached (kinds : Kinds) (input : List ℕ) (setup : Setup) (rest : List ℕ) : Type 0 where
   blocks : List (List ℕ)
   refused : List Refusal
   lines : text_lines input ≡ blocks ++ text_lines rest
-  are_blocks : AreBlocks blocks setup.rooms refused
+  are_blocks : AreBlocks kinds blocks setup.rooms refused
   refused_lines : setup.refused ≡ flat_map refusal_line refused
   number : setup.line ≡ number_after blocks
 
 -- what comes of one block more
-record Taken (setup now : Setup) (blocks : List (List ℕ)) (block : List ℕ) : Type 0 where
+record Taken (kinds : Kinds) (setup now : Setup) (blocks : List (List ℕ)) (block : List ℕ) : Type 0 where
   refused : List Refusal
-  are_blocks : AreBlocks (blocks ++ text_lines block) now.rooms refused
+  are_blocks : AreBlocks kinds (blocks ++ text_lines block) now.rooms refused
   refused_lines : now.refused ≡ flat_map refusal_line refused
   line : now.line ≡ setup.line
 
@@ -144,25 +146,25 @@ one_refused setup refused refusal before line =
     ap (λ (n : ℕ). setup.refused ++ refused_line n refusal.why) line ∙ ap (λ (text : List ℕ). text ++ refusal_line refusal) before
     ∙ ap (λ (text : List ℕ). flat_map refusal_line refused ++ text) (sym (append-nil (refusal_line refusal))) ∙ sym (flat_map-append refusal_line refused (refusal ∷ []))
 
-taken_room : (setup : Setup) (blocks : List (List ℕ)) (refused : List Refusal) (block : List ℕ) (room : RoomSpec) (len : ℕ) (has : Bool) → AreBlocks blocks setup.rooms refused → setup.refused ≡ flat_map refusal_line refused → setup.line ≡ number_after blocks → IsBlockText block
-    → block_in block ≡ Ok (room, len) → has_room room.name setup.rooms ≡ has → Taken setup (open_room setup room) blocks block
-taken_room setup blocks refused block room len true are lines number text read has = rw has (record {
+taken_room : (kinds : Kinds) (setup : Setup) (blocks : List (List ℕ)) (refused : List Refusal) (block : List ℕ) (room : RoomSpec) (len : ℕ) (has : Bool) → AreBlocks kinds blocks setup.rooms refused → setup.refused ≡ flat_map refusal_line refused → setup.line ≡ number_after blocks → IsBlockText block
+    → block_of kinds block ≡ Ok (room, len) → has_room room.name setup.rooms ≡ has → Taken kinds setup (open_room setup room) blocks block
+taken_room kinds setup blocks refused block room len true are lines number text read has = rw has (record {
   refused = refused ++ record { line = number_after blocks; why = codes "41" } ∷ [];
   are_blocks = NameTaken blocks setup.rooms refused block room len are text read has;
   refused_lines = one_refused setup refused (record { line = number_after blocks; why = codes "41" }) lines number;
   line = refl;
 })
-taken_room setup blocks refused block room len false are lines number text read has = rw has (record {
+taken_room kinds setup blocks refused block room len false are lines number text read has = rw has (record {
   refused = refused;
   are_blocks = Opened blocks setup.rooms refused block room len are text read has;
   refused_lines = lines;
   line = refl;
 })
 
-taken : (setup : Setup) (blocks : List (List ℕ)) (refused : List Refusal) (block : List ℕ) (read : Result (RoomSpec × ℕ) SpecFault) → AreBlocks blocks setup.rooms refused → setup.refused ≡ flat_map refusal_line refused → setup.line ≡ number_after blocks → IsBlockText block
-    → block_in block ≡ read → Taken setup (open_block setup read) blocks block
-taken setup blocks refused block (Ok (room, len)) are lines number text read = taken_room setup blocks refused block room len (has_room room.name setup.rooms) are lines number text read refl
-taken setup blocks refused block (Err fault) are lines number text read = record {
+taken : (kinds : Kinds) (setup : Setup) (blocks : List (List ℕ)) (refused : List Refusal) (block : List ℕ) (read : Result (RoomSpec × ℕ) SpecFault) → AreBlocks kinds blocks setup.rooms refused → setup.refused ≡ flat_map refusal_line refused → setup.line ≡ number_after blocks → IsBlockText block
+    → block_of kinds block ≡ read → Taken kinds setup (open_block setup read) blocks block
+taken kinds setup blocks refused block (Ok (room, len)) are lines number text read = taken_room kinds setup blocks refused block room len (has_room room.name setup.rooms) are lines number text read refl
+taken kinds setup blocks refused block (Err fault) are lines number text read = record {
   refused = refused ++ record { line = number_after blocks; why = fault_text fault } ∷ [];
   are_blocks = Faulty blocks setup.rooms refused block fault are text read;
   refused_lines = one_refused setup refused (record { line = number_after blocks; why = fault_text fault }) lines number;
@@ -172,11 +174,11 @@ taken setup blocks refused block (Err fault) are lines number text read = record
 no_events_line : (text : List ℕ) → bytes_eq (first_line text) (codes "events") ≡ false → first_line text ≢ codes "events"
 no_events_line text other is = absurd (false≢true (sym other ∙ (bytes_eq-Decides (first_line text) (codes "events")).1 is))
 
-one_further : (input : List ℕ) (setup : Setup) (rest : List ℕ) (len : ℕ) → Reached input setup rest → block_len rest ≡ Some len → bytes_eq (first_line rest) (codes "events") ≡ false → Reached input (after_block setup (take len rest)) (drop len rest)
-one_further input setup rest len reached found other =
+one_further : (kinds : Kinds) (input : List ℕ) (setup : Setup) (rest : List ℕ) (len : ℕ) → Reached kinds input setup rest → block_len rest ≡ Some len → bytes_eq (first_line rest) (codes "events") ≡ false → Reached kinds input (after_block kinds setup (take len rest)) (drop len rest)
+one_further kinds input setup rest len reached found other =
     let front = front_of rest len found in
     let text : IsBlockText (take len rest) = record { ends = front.ends; other = λ is. no_events_line rest other (sym front.same ∙ is) } in
-    let more = taken setup reached.blocks reached.refused (take len rest) (block_in (take len rest)) reached.are_blocks reached.refused_lines reached.number text refl in
+    let more = taken kinds setup reached.blocks reached.refused (take len rest) (block_of kinds (take len rest)) reached.are_blocks reached.refused_lines reached.number text refl in
     record {
       blocks = reached.blocks ++ text_lines (take len rest);
       refused = more.refused;
@@ -187,20 +189,20 @@ one_further input setup rest len reached found other =
     }
 
 -- what the blocks of an input say
-record IsBehind (input : List ℕ) (setup : Setup) (transcript : List ℕ) : Type 0 where
+record IsBehind (kinds : Kinds) (input : List ℕ) (setup : Setup) (transcript : List ℕ) : Type 0 where
   blocks : List (List ℕ)
   refused : List Refusal
   lines : text_lines input ≡ with_events blocks ++ text_lines transcript
-  are_blocks : AreBlocks blocks setup.rooms refused
+  are_blocks : AreBlocks kinds blocks setup.rooms refused
   refused_lines : setup.refused ≡ flat_map refusal_line refused
   number : setup.line ≡ number_after (with_events blocks)
 
-abbrev BlocksSay : List ℕ → Result (Setup × List ℕ) FaultAt → Type 0
-BlocksSay input (Ok (setup, transcript)) = IsBehind input setup transcript
-BlocksSay input (Err (line, fault)) = EndsEarly input line fault
+abbrev BlocksSay : Kinds → List ℕ → Result (Setup × List ℕ) FaultAt → Type 0
+BlocksSay kinds input (Ok (setup, transcript)) = IsBehind kinds input setup transcript
+BlocksSay kinds input (Err (line, fault)) = EndsEarly kinds input line fault
 
-at_events : (input : List ℕ) (setup : Setup) (rest : List ℕ) → Reached input setup rest → bytes_eq (first_line rest) (codes "events") ≡ true → IsBehind input (pass_lines 1 setup) (later_lines rest)
-at_events input setup rest reached is = record {
+at_events : (kinds : Kinds) (input : List ℕ) (setup : Setup) (rest : List ℕ) → Reached kinds input setup rest → bytes_eq (first_line rest) (codes "events") ≡ true → IsBehind kinds input (pass_lines 1 setup) (later_lines rest)
+at_events kinds input setup rest reached is = record {
   blocks = reached.blocks;
   refused = reached.refused;
   lines = reached.lines ∙ ap (λ (l : List (List ℕ)). reached.blocks ++ l) (events_line rest is) ∙ sym (append_assoc reached.blocks (codes "events" ∷ []) (text_lines (later_lines rest)));
@@ -209,8 +211,8 @@ at_events input setup rest reached is = record {
   number = omega (arith, reached.number, length-append reached.blocks (codes "events" ∷ []));
 }
 
-too_early : (input : List ℕ) (setup : Setup) (rest : List ℕ) → Reached input setup rest → bytes_eq (first_line rest) (codes "events") ≡ false → block_len rest ≡ None → EndsEarly input (setup.line + length (text_lines rest)) NoEvents
-too_early input setup rest reached other none = record {
+too_early : (kinds : Kinds) (input : List ℕ) (setup : Setup) (rest : List ℕ) → Reached kinds input setup rest → bytes_eq (first_line rest) (codes "events") ≡ false → block_len rest ≡ None → EndsEarly kinds input (setup.line + length (text_lines rest)) NoEvents
+too_early kinds input setup rest reached other none = record {
   fault_is = refl;
   number = omega (arith, reached.number, ap length reached.lines, length-append reached.blocks (text_lines rest));
   blocks = reached.blocks;
@@ -223,22 +225,22 @@ too_early input setup rest reached other none = record {
   no_events = no_events_line rest other;
 }
 
-next_numbered : (input : List ℕ) (later : Setup → List ℕ → Result (Setup × List ℕ) FaultAt) (setup : Setup) (rest : List ℕ) (len : Option ℕ) → Reached input setup rest → bytes_eq (first_line rest) (codes "events") ≡ false → block_len rest ≡ len
-    → ((now : Setup) (behind : List ℕ) → Reached input now behind → length behind < length rest → BlocksSay input (later now behind)) → BlocksSay input (next_block later setup rest len)
-next_numbered input later setup rest None reached other found on = too_early input setup rest reached other found
-next_numbered input later setup rest (Some len) reached other found on = on (after_block setup (take len rest)) (drop len rest) (one_further input setup rest len reached found other) (front_of rest len found).shorter
+next_numbered : (kinds : Kinds) (input : List ℕ) (later : Setup → List ℕ → Result (Setup × List ℕ) FaultAt) (setup : Setup) (rest : List ℕ) (len : Option ℕ) → Reached kinds input setup rest → bytes_eq (first_line rest) (codes "events") ≡ false → block_len rest ≡ len
+    → ((now : Setup) (behind : List ℕ) → Reached kinds input now behind → length behind < length rest → BlocksSay kinds input (later now behind)) → BlocksSay kinds input (next_block later kinds setup rest len)
+next_numbered kinds input later setup rest None reached other found on = too_early kinds input setup rest reached other found
+next_numbered kinds input later setup rest (Some len) reached other found on = on (after_block kinds setup (take len rest)) (drop len rest) (one_further kinds input setup rest len reached found other) (front_of rest len found).shorter
 
-from_numbered : (input : List ℕ) (most : ℕ) (setup : Setup) (rest : List ℕ) → Reached input setup rest → length rest < most → BlocksSay input (blocks_from most setup rest)
+from_numbered : (kinds : Kinds) (input : List ℕ) (most : ℕ) (setup : Setup) (rest : List ℕ) → Reached kinds input setup rest → length rest < most → BlocksSay kinds input (blocks_from kinds most setup rest)
 unfolding blocks_from
-from_numbered input zero setup rest reached few = absurd (omega (arith, few))
-from_numbered input (suc most) setup rest reached few =
+from_numbered kinds input zero setup rest reached few = absurd (omega (arith, few))
+from_numbered kinds input (suc most) setup rest reached few =
     elim (cases_Bool (bytes_eq (first_line rest) (codes "events"))) [
-      | inl is ↦ rw is (at_events input setup rest reached is)
-      | inr other ↦ rw other (next_numbered input (blocks_from most) setup rest (block_len rest) reached other refl (λ now behind more shorter. from_numbered input most now behind more (omega (arith, few, shorter))))
+      | inl is ↦ rw is (at_events kinds input setup rest reached is)
+      | inr other ↦ rw other (next_numbered kinds input (blocks_from kinds most) setup rest (block_len rest) reached other refl (λ now behind more shorter. from_numbered kinds input most now behind more (omega (arith, few, shorter))))
     ]
 
-blocks_numbered : (input : List ℕ) → BlocksSay input (blocks_in input)
-blocks_numbered input = from_numbered input (suc (length input)) no_blocks input (record { blocks = []; refused = []; lines = refl; are_blocks = NoBlock; refused_lines = refl; number = refl }) (omega arith)
+blocks_numbered : (kinds : Kinds) (input : List ℕ) → BlocksSay kinds input (blocks_in kinds input)
+blocks_numbered kinds input = from_numbered kinds input (suc (length input)) no_blocks input (record { blocks = []; refused = []; lines = refl; are_blocks = NoBlock; refused_lines = refl; number = refl }) (omega arith)
 
 -- ---- the event lines
 
@@ -296,8 +298,8 @@ reported_numbered rooms before lines fed line (text ∷ texts) reported number =
 
 -- ---- the whole input
 
-whole_numbered : (input : List ℕ) (setup : Setup) (transcript : List ℕ) (behind : IsBehind input setup transcript) (said : Result (List FedEvent) FaultAt) → EventsSay setup.rooms (with_events behind.blocks) (text_lines transcript) said → IsNumbered input (with_fed setup said)
-whole_numbered input setup transcript behind (Ok fed) says = record {
+whole_numbered : (kinds : Kinds) (input : List ℕ) (setup : Setup) (transcript : List ℕ) (behind : IsBehind kinds input setup transcript) (said : Result (List FedEvent) FaultAt) → EventsSay setup.rooms (with_events behind.blocks) (text_lines transcript) said → IsNumbered kinds input (with_fed setup said)
+whole_numbered kinds input setup transcript behind (Ok fed) says = record {
   blocks = behind.blocks;
   refused = behind.refused;
   events = text_lines transcript;
@@ -306,7 +308,7 @@ whole_numbered input setup transcript behind (Ok fed) says = record {
   refused_lines = behind.refused_lines;
   reported = says;
 }
-whole_numbered input setup transcript behind (Err (line, fault)) says = inr (record {
+whole_numbered kinds input setup transcript behind (Err (line, fault)) says = inr (record {
   blocks = behind.blocks;
   rooms = setup.rooms;
   refused = behind.refused;
@@ -321,11 +323,11 @@ whole_numbered input setup transcript behind (Err (line, fault)) says = inr (rec
   why = says.why;
 })
 
-events_numbered : (input : List ℕ) (read : Result (Setup × List ℕ) FaultAt) → BlocksSay input read → IsNumbered input (later_events read)
-events_numbered input (Ok (setup, transcript)) behind =
-    whole_numbered input setup transcript behind (fed_from setup.rooms [] setup.line (text_lines transcript))
+events_numbered : (kinds : Kinds) (input : List ℕ) (read : Result (Setup × List ℕ) FaultAt) → BlocksSay kinds input read → IsNumbered kinds input (later_events read)
+events_numbered kinds input (Ok (setup, transcript)) behind =
+    whole_numbered kinds input setup transcript behind (fed_from setup.rooms [] setup.line (text_lines transcript))
     (reported_numbered setup.rooms (with_events behind.blocks) [] [] setup.line (text_lines transcript) NoLine (behind.number ∙ ap (λ (l : List (List ℕ)). number_after l) (sym (append-nil (with_events behind.blocks)))))
-events_numbered input (Err (line, fault)) early = inl early
+events_numbered kinds input (Err (line, fault)) early = inl early
 
-pub input_numbered : (input : List ℕ) → IsNumbered input (input_says input)
-input_numbered input = events_numbered input (blocks_in input) (blocks_numbered input)
+pub input_numbered : (kinds : Kinds) (input : List ℕ) → IsNumbered kinds input (input_says kinds input)
+input_numbered kinds input = events_numbered kinds input (blocks_in kinds input) (blocks_numbered kinds input)

@@ -4,12 +4,14 @@ use Rattle.protocol_lang.specs.Faults.{code_of as protocol_code}
 use Rattle.protocol_lang.specs.FirstFaults.{place_of}
 use Rattle.room_spec.specs.Faults.{code_of as block_code}
 use Rattle.room_spec.specs.Rooms.{RoomSpec}
-use Rattle.room_spec.specs.Blocks.{block_in, block_len}
+use Rattle.room_spec.specs.Blocks.{block_len}
 use Rattle.room_spec.specs.declared.fault.SpecFault.{SpecFault}
 use Rattle.room_spec.specs.declared.fault.SpecFault.TheVariants.{BadLine, BadProtocol, CrashLine, Repeated, TaskLine}
 use Rattle.history_checker.specs.Verdicts.{has_room}
 use Rattle.room_files.specs.Faults.{FaultAt}
+use Rattle.room_files.specs.Kinds.{block_of}
 use Rattle.room_files.specs.Lines.{text_lines}
+use Rattle.room_files.specs.declared.kinds.Kinds.{Kinds}
 use Rattle.room_files.specs.declared.fault.InputFault.{InputFault}
 use Rattle.room_files.specs.declared.fault.InputFault.TheVariants.{BadInput, Memory}
 use Rattle.room_files.specs.declared.fault.BlockFault.{BlockFault}
@@ -44,9 +46,9 @@ why_text (blocks.Spec fault) = fault_text fault
 why_text blocks.NameTaken = codes "41"
 
 -- the fault is the block's own, or the block has none, and a room before it has its name
-abbrev pub IsWhy : List ℕ → BlockFault → Type 0
-IsWhy block (blocks.Spec fault) = block_in block ≡ Err fault
-IsWhy block blocks.NameTaken = IsOk (block_in block)
+abbrev pub IsWhy : Kinds → List ℕ → BlockFault → Type 0
+IsWhy kinds block (blocks.Spec fault) = block_of kinds block ≡ Err fault
+IsWhy kinds block blocks.NameTaken = IsOk (block_of kinds block)
 
 -- ---- the blocks
 
@@ -74,9 +76,9 @@ open_block setup (Err fault) = refuse setup (fault_text fault)
 abbrev pub pass_lines : ℕ → Setup → Setup
 pass_lines count setup = record { rooms = setup.rooms; refused = setup.refused; line = setup.line + count }
 
--- one block more, of these bytes
-abbrev pub after_block : Setup → List ℕ → Setup
-after_block setup block = pass_lines (length (text_lines block)) (open_block setup (block_in block))
+-- one block more, of these bytes, where blocks of these kinds are read
+abbrev pub after_block : Kinds → Setup → List ℕ → Setup
+after_block kinds setup block = pass_lines (length (text_lines block)) (open_block setup (block_of kinds block))
 
 abbrev pub or_all : List ℕ → Option ℕ → ℕ
 or_all text None = length text
@@ -85,11 +87,6 @@ or_all text (Some len) = len
 -- how many bytes of a text are its first block: those up to its line `end`, or else all
 abbrev pub block_extent : List ℕ → ℕ
 block_extent text = or_all text (block_len text)
-
--- what was read of a block is what it says, or its fault
-abbrev pub ReadsBlock : List ℕ → Result RoomSpec SpecFault → Type 0
-ReadsBlock block (Ok room) = block_in block ≡ Ok (room, length block)
-ReadsBlock block (Err fault) = block_in block ≡ Err fault
 
 -- ---- an input's fault
 

@@ -11,6 +11,7 @@ use Rattle.history_checker.specs.Verdicts.{FedEvent, has_room}
 use Rattle.room_files.specs.Blocks.{Setup, after_block, block_extent, no_blocks, pass_lines}
 use Rattle.room_files.specs.Faults.{FaultAt, text_code}
 use Rattle.room_files.specs.Lines.{text_lines}
+use Rattle.room_files.specs.declared.kinds.Kinds.{Kinds}
 use Rattle.room_files.specs.declared.fault.TextFault.TheVariants.{BadEvent, NoEvents, NoRoom}
 
 -- ---- the blocks
@@ -19,20 +20,20 @@ use Rattle.room_files.specs.declared.fault.TextFault.TheVariants.{BadEvent, NoEv
 abbrev pub ended_early : Setup → List ℕ → Result (Setup × List ℕ) FaultAt
 ended_early setup rest = Err (setup.line + length (text_lines rest), NoEvents)
 
-abbrev pub next_block : (Setup → List ℕ → Result (Setup × List ℕ) FaultAt) → Setup → List ℕ → Option ℕ → Result (Setup × List ℕ) FaultAt
-next_block later setup rest None = ended_early setup rest
-next_block later setup rest (Some len) = later (after_block setup (take len rest)) (drop len rest)
+abbrev pub next_block : (Setup → List ℕ → Result (Setup × List ℕ) FaultAt) → Kinds → Setup → List ℕ → Option ℕ → Result (Setup × List ℕ) FaultAt
+next_block later kinds setup rest None = ended_early setup rest
+next_block later kinds setup rest (Some len) = later (after_block kinds setup (take len rest)) (drop len rest)
 
 -- the blocks up to the line `events`, at most this many, and the text after it
-unfoldable pub blocks_from : ℕ → Setup → List ℕ → Result (Setup × List ℕ) FaultAt
-blocks_from zero setup rest = ended_early setup rest
-blocks_from (suc most) setup rest =
+unfoldable pub blocks_from : Kinds → ℕ → Setup → List ℕ → Result (Setup × List ℕ) FaultAt
+blocks_from kinds zero setup rest = ended_early setup rest
+blocks_from kinds (suc most) setup rest =
     if bytes_eq (first_line rest) (codes "events") then Ok (pass_lines 1 setup, later_lines rest)
-    else next_block (blocks_from most) setup rest (block_len rest)
+    else next_block (blocks_from kinds most) kinds setup rest (block_len rest)
 
 -- an input has fewer blocks than bytes
-abbrev pub blocks_in : List ℕ → Result (Setup × List ℕ) FaultAt
-blocks_in input = blocks_from (suc (length input)) no_blocks input
+abbrev pub blocks_in : Kinds → List ℕ → Result (Setup × List ℕ) FaultAt
+blocks_in kinds input = blocks_from kinds (suc (length input)) no_blocks input
 
 -- the input begins with a block, which takes memory
 abbrev pub BeginsWithBlock : List ℕ → Type 0
@@ -62,8 +63,8 @@ later_events (Ok read) = with_fed read.0 (fed_from read.0.rooms [] read.0.line (
 later_events (Err fault) = Err fault
 
 -- what an input says: its blocks and its events, or its first fault and the line of that
-abbrev pub input_says : List ℕ → Result (Setup × List FedEvent) FaultAt
-input_says input = later_events (blocks_in input)
+abbrev pub input_says : Kinds → List ℕ → Result (Setup × List FedEvent) FaultAt
+input_says kinds input = later_events (blocks_in kinds input)
 
 -- the same with the number of the fault
 abbrev pub with_code : {A : Type 0} → Result A FaultAt → Result A (ℕ × ℕ)
@@ -71,19 +72,19 @@ with_code (Ok read) = Ok read
 with_code (Err fault) = Err (fault.0, text_code fault.1)
 
 -- memory may be refused to a block, and to the output for an input that has no fault
-abbrev pub MayLackMemory : List ℕ → Type 0
-MayLackMemory input = BeginsWithBlock input ⊎ IsOk (input_says input)
+abbrev pub MayLackMemory : Kinds → List ℕ → Type 0
+MayLackMemory kinds input = BeginsWithBlock input ⊎ IsOk (input_says kinds input)
 
 -- ---- an input that has only blocks
 
 -- what the blocks of a text say after those before it, at most this many; if it has no line `end`, all of it is a block
-unfoldable pub all_blocks_from : ℕ → Setup → List ℕ → Setup
-all_blocks_from zero setup text = setup
-all_blocks_from (suc most) setup [] = setup
-all_blocks_from (suc most) setup (byte ∷ bytes) =
+unfoldable pub all_blocks_from : Kinds → ℕ → Setup → List ℕ → Setup
+all_blocks_from kinds zero setup text = setup
+all_blocks_from kinds (suc most) setup [] = setup
+all_blocks_from kinds (suc most) setup (byte ∷ bytes) =
     let text = byte ∷ bytes in
-    all_blocks_from most (after_block setup (take (block_extent text) text)) (drop (block_extent text) text)
+    all_blocks_from kinds most (after_block kinds setup (take (block_extent text) text)) (drop (block_extent text) text)
 
 -- an input has no more blocks than bytes
-abbrev pub all_blocks : List ℕ → Setup
-all_blocks input = all_blocks_from (length input) no_blocks input
+abbrev pub all_blocks : Kinds → List ℕ → Setup
+all_blocks kinds input = all_blocks_from kinds (length input) no_blocks input

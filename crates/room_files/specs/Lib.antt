@@ -1,6 +1,7 @@
 pub mod Faults
 pub mod Blocks
 pub mod Inputs
+pub mod Kinds
 pub mod LineNumbers
 pub mod Lines
 pub mod Reports

@@ -1,9 +1,10 @@
 //! Rooms with the blocks that say them.
 ghost use Rattle.std.specs.Prelude.{◌≡◌, ◌<◌, ◌∷◌, ◌++◌, [], Ok, IsFalse, OnOk, OnErr, Some, length, slice_get};
-ghost use Rattle.room_spec.specs.Blocks.{block_in};
 ghost use Rattle.room_spec.specs.Rooms.{RoomSpec};
 ghost use Rattle.history_checker.specs.Verdicts.{has_room};
 ghost use Rattle.room_files.specs.BlockLists.{IsBlockAt, whole_block};
+ghost use Rattle.room_files.specs.Kinds.{block_of};
+ghost use Rattle.room_files.specs.declared.kinds.Kinds.TheVariants.{All};
 
 use crate::blocks::Opens;
 use crate::spec_list::SpecList;
@@ -64,7 +65,7 @@ impl BlockList {
     #[tactic(auto, using(crate::proofs::BlockLists::one_block_more))]
     fn push(&mut self, alloc: Global, spec: Spec, block: &[u8]) -> Result<(), AllocError>
         requires free { IsFalse (has_room spec.name self.old.rooms) }
-        requires block { block_in block.now ≡ Ok (spec, length block.now) }
+        requires block { block_of All block.now ≡ Ok (spec, length block.now) }
         ensures added { OnOk result (self.new.rooms ≡ self.old.rooms ++ spec ∷ []) }
         ensures err { OnErr result (self.new ≡ self.old) }
     {

@@ -1,25 +1,27 @@
 //! What the blocks of an input say, one after the other.
-ghost use Rattle.std.specs.Prelude.{◌≡◌, ◌+◌, ◌<◌, ◌^◌, ◌≤◌, [], IfOk, IfErr, IsOk, OnOk, length};
-ghost use Rattle.room_spec.specs.Blocks.{LacksMemory, block_in, block_len};
+ghost use Rattle.std.specs.Prelude.{◌≡◌, ◌+◌, ◌<◌, ◌^◌, ◌≤◌, [], IsOk, OnOk, length};
+ghost use Rattle.room_spec.specs.Blocks.{block_len};
+ghost use Rattle.room_files.specs.Kinds.{block_of};
 ghost use Rattle.room_files.specs.Lines.{text_lines};
-ghost use Rattle.room_files.specs.Blocks.{no_blocks, refuse, open_room, after_block, pass_lines, why_text, IsWhy, ReadsBlock};
+ghost use Rattle.room_files.specs.Blocks.{no_blocks, refuse, open_room, after_block, pass_lines, why_text, IsWhy};
 
 use crate::fault::BlockFault;
+use crate::kinds::{Kinds, read_lines};
 use crate::lines::count_lines;
 use crate::report::{write_refused, write_refused_code};
 use history_checker::{AddFault, Rooms};
 use io_text::Text;
-use protocol_lang::ParseFault;
-use room_spec::{Block, Name, Protocols, Spec, SpecFault, read_block};
+use room_spec::{Block, Name, Protocols, Spec, SpecFault};
 use std::alloc::{AllocError, Global};
 use std::marker::Model;
 
 /// Rooms that are opened one by one.
 pub trait Opens: Drop {
     ghost use Rattle.std.specs.Prelude.{◌≡◌, ◌∷◌, ◌++◌, [], List, IsFalse, Ok, OnOk, OnErr, length};
-    ghost use Rattle.room_spec.specs.Blocks.{block_in};
     ghost use Rattle.room_spec.specs.Rooms.{RoomSpec};
     ghost use Rattle.history_checker.specs.Verdicts.{has_room};
+    ghost use Rattle.room_files.specs.Kinds.{block_of};
+    ghost use Rattle.room_files.specs.declared.kinds.Kinds.TheVariants.{All};
 
     // The specs of those that are open, in order.
     ghost specs: { Self → List RoomSpec };
@@ -34,7 +36,7 @@ pub trait Opens: Drop {
     /// Opens one more, whose name none has, and which a block of these bytes says. An `Err` drops the spec and changes nothing.
     fn push(&mut self, alloc: Global, spec: Spec, block: &[u8]) -> Result<(), AllocError>
         requires free { IsFalse (has_room spec.name (specs self.old)) }
-        requires block { block_in block.now ≡ Ok (spec, length block.now) }
+        requires block { block_of All block.now ≡ Ok (spec, length block.now) }
         ensures opened { OnOk result (specs self.new ≡ specs self.old ++ spec ∷ []) }
         ensures unfed { OnOk result (is_unfed self.old → is_unfed self.new) }
         ensures err { OnErr result (self.new ≡ self.old) };
@@ -61,13 +63,14 @@ impl Opens for Rooms {
 pub trait Refuses: Drop {
     ghost use Rattle.std.specs.Prelude.{◌≡◌, ◌++◌, ℕ, List, OnOk};
     ghost use Rattle.room_files.specs.Blocks.{refused_line, why_text, IsWhy};
+    ghost use Rattle.room_files.specs.declared.kinds.Kinds.{Kinds};
 
     // The lines that say those so far.
     ghost lines: { Self → List ℕ };
 
     /// Refuses a block of these bytes, whose first line has this number.
     fn refuse(&mut self, line: u64, fault: BlockFault, block: &[u8]) -> Result<(), AllocError>
-        requires { IsWhy block.now fault }
+        requires { (kinds : Kinds) × IsWhy kinds block.now fault }
         ensures { OnOk result (lines self.new ≡ lines self.old ++ refused_line line (why_text fault)) };
 }
 
@@ -123,51 +126,58 @@ impl<R: Opens, T: Refuses> Setup<R, T> {
         }
     }
 
-    /// Takes the next block. `Err` is an allocation that failed.
+    /// Takes the next block, of these kinds. `Err` is an allocation that failed.
     pub(crate) fn take<'a>(
         &mut self,
         alloc: Global,
+        kinds: Kinds,
         block: &Block<'a>,
         protocols: &mut Protocols<'a>,
     ) -> Result<(), AllocError>
         requires { self.old.line + length block.now < 2 ^ 64 }
-        ensures block { OnOk result (self.new ≡ after_block self.old block.now) }
+        ensures block { OnOk result (self.new ≡ after_block kinds self.old block.now) }
         ensures line { OnOk result (self.new.line ≤ self.old.line + length block.now) }
     {
-        match read_lines(alloc, block, protocols)? {
-            Ok(spec) => self.open_room(alloc, spec, block.text())?,
-            Err(fault) => self.refuse(BlockFault::Spec(fault), block.text())?,
+        match read_lines(alloc, kinds, block, protocols)? {
+            Ok(spec) => self.open_room(alloc, kinds, spec, block.text())?,
+            Err(fault) => self.refuse(kinds, BlockFault::Spec(fault), block.text())?,
         }
         self.pass_lines(lines_of(block));
         Ok(())
     }
 
     /// Refuses what is left of an input, which has no line `end`. `Err` is an allocation that failed.
-    pub(crate) fn refuse_rest(&mut self, rest: &[u8]) -> Result<(), AllocError>
+    pub(crate) fn refuse_rest(&mut self, kinds: Kinds, rest: &[u8]) -> Result<(), AllocError>
         requires fits { self.old.line + length rest.now < 2 ^ 64 }
         requires ends { block_len rest.now ≡ None }
-        ensures { OnOk result (self.new ≡ after_block self.old rest.now) }
+        ensures { OnOk result (self.new ≡ after_block kinds self.old rest.now) }
     {
-        self.refuse(BlockFault::Spec(SpecFault::Truncated), rest)?;
+        self.refuse(kinds, BlockFault::Spec(SpecFault::Truncated), rest)?;
         self.pass_lines(count_lines(rest));
         Ok(())
     }
 
     /// Opens the room that a block of these bytes says, unless its name is taken.
-    fn open_room(&mut self, alloc: Global, spec: Spec, block: &[u8]) -> Result<(), AllocError>
-        requires { block_in block.now ≡ Ok (spec, length block.now) }
+    fn open_room(
+        &mut self,
+        alloc: Global,
+        kinds: Kinds,
+        spec: Spec,
+        block: &[u8],
+    ) -> Result<(), AllocError>
+        requires { block_of kinds block.now ≡ Ok (spec, length block.now) }
         ensures room { OnOk result (self.new ≡ open_room self.old spec) }
         ensures line { OnOk result (self.new.line ≡ self.old.line) }
     {
         if self.rooms.has(spec.name()) {
-            return self.refuse(BlockFault::NameTaken, block);
+            return self.refuse(kinds, BlockFault::NameTaken, block);
         }
         self.rooms.push(alloc, spec, block)
     }
 
-    /// Refuses a block of these bytes.
-    fn refuse(&mut self, fault: BlockFault, block: &[u8]) -> Result<(), AllocError>
-        requires { IsWhy block.now fault }
+    /// Refuses a block of these bytes, which is read as one of these kinds.
+    fn refuse(&mut self, kinds: Kinds, fault: BlockFault, block: &[u8]) -> Result<(), AllocError>
+        requires { IsWhy kinds block.now fault }
         ensures refused { OnOk result (self.new ≡ refuse self.old (why_text fault)) }
         ensures line { OnOk result (self.new.line ≡ self.old.line) }
     {
@@ -190,36 +200,4 @@ fn lines_of(block: &Block<'_>) -> u64
     ensures within { result ≤ length block.now }
 {
     block.lines() as u64
-}
-
-/// What a block says, and how long it is, or its first fault. `Err` is an allocation for its protocol that failed.
-pub fn read_room(
-    alloc: Global,
-    block: &[u8],
-) -> Result<Result<(Spec, usize), SpecFault>, AllocError>
-    ensures read { IfOk result (λ read. read ≡ block_in block.now) }
-    // An allocation that fails hides no fault that is found before it.
-    ensures lacks { IfErr result (λ _. LacksMemory block.now) }
-{
-    match read_block(alloc, block) {
-        Err(SpecFault::BadProtocol(ParseFault::OutOfMemory)) => Err(AllocError),
-        read => Ok(read),
-    }
-}
-
-/// The same for one of several blocks, which share protocols.
-#[inline]
-fn read_lines<'a>(
-    alloc: Global,
-    block: &Block<'a>,
-    protocols: &mut Protocols<'a>,
-) -> Result<Result<Spec, SpecFault>, AllocError>
-    ensures read { IfOk result (λ read. ReadsBlock block.now read) }
-    // An allocation that fails hides no fault that is found before it.
-    ensures lacks { IfErr result (λ _. LacksMemory block.now) }
-{
-    match block.read(alloc, protocols) {
-        Err(SpecFault::BadProtocol(ParseFault::OutOfMemory)) => Err(AllocError),
-        read => Ok(read),
-    }
 }

@@ -54,7 +54,8 @@ fn write_numbers(output: &mut Text, fault: SpecFault) -> Result<(), AllocError>
         | SpecFault::Simulators
         | SpecFault::Rounds
         | SpecFault::Turns
-        | SpecFault::TooWide => Ok(()),
+        | SpecFault::TooWide
+        | SpecFault::Processes => Ok(()),
     }
 }
 

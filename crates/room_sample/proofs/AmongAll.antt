@@ -14,9 +14,8 @@ use Rattle.room_core.proofs.CallerLemmasOnSpecs.{same_spec, same_spec_steps}
 use Rattle.ws_history.specs.Reports.{states_of}
 use Rattle.ws_history.specs.declared.states.ProcessState.{ProcessState}
 use Rattle.run_search.specs.declared.ended.Ended.{Ended}
-use Rattle.run_search.specs.Outcomes.{IsRunOutcome}
-use Rattle.room_outcomes.specs.Ends.{ends_of}
-use Rattle.room_outcomes.proofs.CallerLemmas.{reported_outcome}
+use Rattle.room_outcomes.specs.Ends.{IsRoomOutcome, ends_of}
+use Rattle.room_outcomes.proofs.CallerLemmas.{reported_room_outcome}
 use Rattle.room_sample.specs.Schedules.{IsOutcome, room_after_schedule, room_after_stretch, settled_by}
 use Rattle.room_sample.specs.Chances.{random_of}
 use Rattle.room_sample.specs.Samples.{AreAmongAll, Counted, IsRunFrom, IsSampleOf, Sampled, counted, number_at, once_more, same_states}
@@ -62,13 +61,13 @@ settled_fields spec schedule limits =
     let opened : HasFields spec (opening_state spec) = record { same = refl; fields = opening_fields spec; are = opening_in_fields spec } in
     after_call spec (room_after_schedule (opening_state spec) schedule) Settle limits (after_schedule spec (opening_state spec) schedule limits opened)
 
-pub sampled_outcome : (spec : RoomSpec) (crashes : ℕ) (schedule : List Stretch) (states : List ProcessState) → IsWithinLimits spec → IsOutcome spec crashes schedule states → IsRunOutcome spec (processes spec) (ends_of states)
+pub sampled_outcome : (spec : RoomSpec) (crashes : ℕ) (schedule : List Stretch) (states : List ProcessState) → IsWithinLimits spec → IsOutcome spec crashes schedule states → IsRoomOutcome spec (processes spec) (ends_of states)
 sampled_outcome spec crashes schedule states limits is =
     let settled = settled_fields spec schedule limits in
     let room = settled_by spec schedule in
-    let among : IsRunOutcome room.spec (processes room.spec) (ends_of (states_of room.spec settled.fields)) = reported_outcome room settled.fields (within spec room settled.same limits) settled.are in
-    subst (λ (ends : List Ended). IsRunOutcome spec (processes spec) ends) (ap ends_of (sym (is.reported settled.fields settled.are)))
-    (subst (λ (s : RoomSpec). IsRunOutcome s (processes s) (ends_of (states_of room.spec settled.fields))) settled.same among)
+    let among : IsRoomOutcome room.spec (processes room.spec) (ends_of (states_of room.spec settled.fields)) = reported_room_outcome room settled.fields (within spec room settled.same limits) settled.are in
+    subst (λ (ends : List Ended). IsRoomOutcome spec (processes spec) ends) (ap ends_of (sym (is.reported settled.fields settled.are)))
+    (subst (λ (s : RoomSpec). IsRoomOutcome s (processes s) (ends_of (states_of room.spec settled.fields))) settled.same among)
 
 -- ---- and so are those of a sample
 
@@ -83,7 +82,7 @@ counted_keeps P run [] here are = (here, tt)
 counted_keeps P run (one ∷ others) here are = counted_by P run one others (same_states run.states one.states) here are.0 are.1 (counted_keeps P run others here are.1)
 
 abbrev is_among : RoomSpec → List ProcessState → Type 0
-is_among spec states = IsRunOutcome spec (processes spec) (ends_of states)
+is_among spec states = IsRoomOutcome spec (processes spec) (ends_of states)
 
 abbrev are_among : RoomSpec → List Counted → Type 0
 are_among spec outcomes = AllByRecursion (λ (c : Counted). is_among spec c.states) outcomes

@@ -8,8 +8,7 @@ use Rattle.ws_history.specs.contracts.states.ProcessStatePartialEq.TheImpl.{ghos
 use Rattle.ws_history.specs.declared.states.ProcessState.{ProcessState}
 use Rattle.rand_core.specs.Stream.{Stream}
 use Rattle.room_core.specs.Calls.{RoomState}
-use Rattle.room_outcomes.specs.Ends.{ends_of}
-use Rattle.run_search.specs.Outcomes.{IsRunOutcome}
+use Rattle.room_outcomes.specs.Ends.{IsRoomOutcome, ends_of}
 use Rattle.room_sample.specs.Chances.{random_of}
 use Rattle.room_sample.specs.Drawn.{IsThrough, Way, most_draws}
 use Rattle.room_sample.specs.Schedules.{HasStopped, IsOutcome, IsSettledAfter}
@@ -96,7 +95,7 @@ IsSample spec plan outcomes = IsSampleOf spec plan plan.schedules outcomes
 
 -- Each outcome is one of those that a search of all runs lists, with those processes stopped that are held or still going.
 abbrev pub AreAmongAll : RoomSpec → List Counted → Type 0
-AreAmongAll spec outcomes = All (λ one. IsRunOutcome spec (processes spec) (ends_of one.states)) outcomes
+AreAmongAll spec outcomes = All (λ one. IsRoomOutcome spec (processes spec) (ends_of one.states)) outcomes
 
 -- the place of the schedule of a number in a plan that begins with another one: after the greatest number comes 0
 abbrev pub place_of : ℕ → ℕ → ℕ

@@ -8,8 +8,7 @@ ghost use Rattle.room_core.specs.Fields.{Fields};
 ghost use Rattle.room_core.specs.Reading.{AreFieldsOf};
 ghost use Rattle.ws_history.specs.Reports.{report_of};
 ghost use Rattle.ws_history.specs.declared.states.ProcessState.{ProcessState};
-ghost use Rattle.run_search.specs.Outcomes.{IsRunOutcome};
-ghost use Rattle.room_outcomes.specs.Ends.{ends_of};
+ghost use Rattle.room_outcomes.specs.Ends.{IsRoomOutcome, ends_of};
 ghost use Rattle.room_sample.specs.Groups.{AreGroups, grouped};
 ghost use Rattle.room_sample.specs.Parts.{added_all};
 ghost use Rattle.room_sample.specs.Samples.{CameByFirst, Counted, IsRunFrom, IsSampleOf, IsSettledFrom, number_at};
@@ -18,10 +17,10 @@ ghost use Rattle.room_sample.specs.declared.sampling.Plan.{Plan};
 ghost use Rattle.room_sample.specs.declared.stretch.Stretch.{Stretch};
 
 /// What a sample finds is among all outcomes that a search of the room's protocol lists, with those processes stopped that are held or
-/// still going.
+/// still going. In a reduction that is a search of the runs from inputs that are the simulators' own.
 pub fn sampled_outcomes()
     ensures { (spec : RoomSpec) (crashes : ℕ) (schedule : List Stretch) (states : List ProcessState) →
-        IsWithinLimits spec → IsOutcome spec crashes schedule states → IsRunOutcome spec (processes spec) (ends_of states) }
+        IsWithinLimits spec → IsOutcome spec crashes schedule states → IsRoomOutcome spec (processes spec) (ends_of states) }
 {}
 
 /// The groups of a sample's outcomes have each outcome once, and each schedule is counted once.

@@ -1,10 +1,10 @@
 -- A search whose nodes have all rooms finds all outcomes.
-use Rattle.std.proofs.Common.{◌≡◌, ℕ, ◌<◌, ◌≤◌, Bool, true, false, cond, not, is_some, List, [], ◌∷◌, length, get_or, set, Option, None, refl, sym, ap, ◌∙◌, subst, arith, inl, inr}
+use Rattle.std.proofs.Common.{◌≡◌, ℕ, ◌<◌, Bool, true, false, cond, not, is_some, List, [], ◌∷◌, length, get_or, set, Option, None, refl, sym, ap, ◌∙◌, subst, arith, inl, inr}
 use Rattle.std.specs.List.{Contains}
 use Rattle.std.proofs.lemmas.Bool.{cases_eq, cases_lt, true≢false}
 use Rattle.std.proofs.lemmas.List.{get_or-map, get_or-set_other, get_or-set_same, get_or_past, length-map}
 use Rattle.std.proofs.lemmas.List.FromFn.{get_or-map-range_with_len, length-map-range_with_len}
-use Rattle.room_spec.specs.Rooms.{RoomSpec, IsWithinLimits, processes}
+use Rattle.room_spec.specs.Rooms.{RoomSpec, IsWithinLimits, is_reduction, processes}
 use Rattle.room_spec.specs.Sizes.{sizes_in}
 use Rattle.level_cells.specs.Fields.{level_of, levels_of}
 use Rattle.safe_agreement.specs.Levels.{has_level, least_two}
@@ -14,6 +14,10 @@ use Rattle.view_table.specs.Words.{word_at}
 use Rattle.simulator.specs.declared.knowledge.Knowledge.{Knowledge}
 use Rattle.room_search.specs.declared.local.Local.{Local}
 use Rattle.simulator.specs.declared.goal.Goal.{Goal}
+use Rattle.simulator.specs.declared.goal.Goal.TheVariants as goals
+use Rattle.simulator.specs.Ranges.{IsGoal}
+use Rattle.view_table.specs.Places.{IsAgreementRound}
+use Rattle.view_table.proofs.CallerLemmas.{agreement_round, zero_agreed}
 use Rattle.simulator.specs.Knowing.{knowledge_of, mind_of}
 use Rattle.simulator.specs.Minds.{MindOf, MindState, goal_at, opening_mind}
 use Rattle.simulator.specs.Sweeps.{SweepState, opening_sweep}
@@ -21,7 +25,7 @@ use Rattle.room_core.specs.Calls.{RoomState, Settle, configuration_of, room_afte
 use Rattle.room_core.specs.Fields.{Fields, StepMap, fields_after_settle}
 use Rattle.room_core.specs.Reading.{AgreeIn, AreFieldsOf, fields_in}
 use Rattle.room_core.specs.Rooms.{Configuration, ScheduleEvent, crashed_at, crashed_by, crashes, mind_at, replay, stepped, steps}
-use Rattle.room_core.specs.Settled.{HasTurnLeft, IsSettledInMind, mind_decided, mind_spent, mind_waits}
+use Rattle.room_core.specs.Settled.{HasTurnLeft, IsSettledInMind, mind_decided, mind_spent, mind_waits, mind_waits_for_input}
 use Rattle.room_core.proofs.CallerLemmas.{agrees, calls_in_fields, shapes}
 use Rattle.room_core.proofs.CallerLemmasOnSpecs.{same_spec}
 use Rattle.run_search.specs.declared.ended.Ended.{Ended}
@@ -45,19 +49,26 @@ module _ (room : RoomState) (fields : Fields) (limits : IsWithinLimits room.spec
   agree : AgreeIn (sizes_in room.spec) (fields_in room) fields
   agree = agrees room fields limits are
 
-  level_read : (a j k : ℕ) → a < room.spec.simulators → j < processes room.spec → 1 ≤ k → k ≤ room.spec.rounds → fields.level a j k ≡ 1 → is_unresolved room.spec room.words j k ≡ true
-  level_read a j k below process first last is =
+  level_read : (a j k : ℕ) → a < room.spec.simulators → j < processes room.spec → IsAgreementRound (sizes_in room.spec) k → fields.level a j k ≡ 1 → is_unresolved room.spec room.words j k ≡ true
+  level_read a j k below process round is =
       let word = word_at (sizes_in room.spec) room.words (places.Levels j k) in
       let levels = levels_of word room.spec.simulators in
       let long : length levels ≡ room.spec.simulators = length-map-range_with_len (λ i. level_of word i) 0 room.spec.simulators in
       let at : get_or levels a 0 ≡ level_of word a = get_or-map-range_with_len (λ i. level_of word i) 0 room.spec.simulators a a 0 (omega (arith, below)) (omega arith) in
-      let one : get_or levels a 0 ≡ 1 = at ∙ agree.level a j k below process (first, last) ∙ is in
+      let one : get_or levels a 0 ≡ 1 = at ∙ agree.level a j k below process round ∙ is in
       unresolved_by (has_level 1 levels) (least_two levels) (has_level_at 1 levels a (omega (arith, below, long)) one)
 
-  rests_by : (i j : ℕ) (list : List Goal) → j < processes room.spec → goal_at (fields.mind i).goals j ≡ goal_at list j → IsSettledInMind room.spec fields i j → waits room.spec room.words j (goal_at list j) ≡ true
-  rests_by i j list process same (mind_decided is) = ap (waits room.spec room.words j) (sym same ∙ is)
-  rests_by i j list process same (mind_spent is) = ap (waits room.spec room.words j) (sym same ∙ is)
-  rests_by i j list process same (mind_waits a k is below crashed first last inside) = ap (waits room.spec room.words j) (sym same ∙ is) ∙ level_read a j k below process first last inside
+  -- only in a reduction a simulator asks for an input
+  asks_input : (i j : ℕ) → i < room.spec.simulators → j < processes room.spec → goal_at (mind_at (configuration_of room) i).goals j ≡ goals.AskInput → is_reduction room.spec ≡ true
+  asks_input i j below process is = subst (IsGoal (sizes_in room.spec)) is (((shapes (configuration_of room) limits are.run).each i below).rounds j process)
+
+  rests_by : (i j : ℕ) (list : List Goal) → i < room.spec.simulators → list ≡ (mind_at (configuration_of room) i).goals → j < processes room.spec → goal_at (fields.mind i).goals j ≡ goal_at list j → IsSettledInMind room.spec fields i j → waits room.spec room.words j (goal_at list j) ≡ true
+  rests_by i j list inside mine process same (mind_decided is) = ap (waits room.spec room.words j) (sym same ∙ is)
+  rests_by i j list inside mine process same (mind_spent is) = ap (waits room.spec room.words j) (sym same ∙ is)
+  rests_by i j list inside mine process same (mind_waits a k is below crashed first last one) = ap (waits room.spec room.words j) (sym same ∙ is) ∙ level_read a j k below process (agreement_round (sizes_in room.spec) k (first, last)) one
+  rests_by i j list inside mine process same (mind_waits_for_input a is below crashed one) =
+      let kind = asks_input i j inside process (ap (λ (l : List Goal). goal_at l j) (sym mine) ∙ sym same ∙ is) in
+      ap (waits room.spec room.words j) (sym same ∙ is) ∙ level_read a j 0 below process (zero_agreed (sizes_in room.spec) kind) one
 
   mind_here : (i : ℕ) → i < room.spec.simulators → mind_at (configuration_of room) i ≡ (sweep_at room i).mind
   mind_here i below =
@@ -106,7 +117,7 @@ rest_in spec start table node room fields i limits is are goes here below settle
       rests = λ alive. subst (Rests spec room.words) (sym goals)
           (λ j process.
           subst (λ (s : RoomSpec). waits s room.words j (goal_at list j) ≡ true) is
-          (rests_by room fields limits are i j list (subst (λ (s : RoomSpec). j < processes s) (sym is) process) (ap (λ (l : List Goal). goal_at l j) (goals_are room fields limits are i inside))
+          (rests_by room fields limits are i j list inside refl (subst (λ (s : RoomSpec). j < processes s) (sym is) process) (ap (λ (l : List Goal). goal_at l j) (goals_are room fields limits are i inside))
           (subst (λ (s : RoomSpec). IsSettledInMind s fields i j) (sym is) (settled alive j process))));
       had = λ was. sym ((agree room fields limits are).crashed i inside) ∙ has_crashed_since start (configuration_of room) i goes was;
     }

@@ -1,6 +1,6 @@
 -- Words of which enough is the same end alike.
 use Rattle.std.proofs.Common.{◌≡◌, ℕ, zero, suc, ◌+◌, ◌-◌, ◌<◌, ◌≤◌, Bool, true, false, cond, eqb, List, [], ◌∷◌, length, map, get_or, min, Option, Some, None, refl, sym, ap, ◌∙◌, subst, arith, inl, inr}
-use Rattle.std.specs.Prelude.{not, position, unwrap_or, nat_le, slice_index, ◌&&◌}
+use Rattle.std.specs.Prelude.{not, position, unwrap_or, nat_le, ◌&&◌}
 use Rattle.std.specs.List.{find, position_or_len, range_with_len}
 use Rattle.std.specs.Option.{option_map}
 use Rattle.std.proofs.lemmas.Bool.{and_parts, cases_Bool, cases_lt, eq-eqb, lt-ltb, le-ltb, true≢false}
@@ -8,26 +8,29 @@ use Rattle.std.proofs.lemmas.List.FromFn.{get_or-map-range_with_len, length-map-
 use Rattle.protocol_lang.specs.Numbers.{greatest}
 use Rattle.protocol_lang.specs.Meaning.{next_action}
 use Rattle.protocol_lang.specs.declared.meaning.Action.{Action}
-use Rattle.room_spec.specs.Rooms.{IsWithinLimits, RoomSpec, processes}
+use Rattle.room_spec.specs.Rooms.{IsWithinLimits, RoomSpec, is_reduction, processes}
 use Rattle.room_spec.specs.Sizes.{memory_words, sizes_in}
 use Rattle.level_cells.specs.Fields.{level_of}
 use Rattle.safe_agreement.specs.Levels.{has_level, least_two}
 use Rattle.safe_agreement.specs.Levels as agreement
 use Rattle.safe_agreement.proofs.CallerLemmas.{least_two_found, least_two_is, no_level_from}
-use Rattle.view_table.specs.Places.{IsPlace, index_of}
+use Rattle.view_table.specs.Places.{IsAgreementRound, IsPlace, index_of}
+use Rattle.view_table.proofs.CallerLemmas.{agreement_round, zero_agreed}
 use Rattle.view_table.specs.Words.{word_at}
 use Rattle.view_table.specs.declared.place.Place.{Place}
 use Rattle.view_table.specs.declared.place.Place.TheVariants as places
 use Rattle.sim_memory.specs.Steps.{merged_of, row_of, step_in}
 use Rattle.sim_memory.proofs.CallerLemmas.{merged_below, step_below}
-use Rattle.room_core.specs.Agreements.{asks, decided_in, first_with, is_clean, is_out, outs_at, row_at, shown, shown_by, shown_of, view_at, written}
+use Rattle.room_core.specs.Agreements.{asks, decided_in, first_with, input_at, is_clean, is_out, outs_at, row_at, shown, shown_by, shown_of, view_at, written}
 use Rattle.room_core.specs.Fields.{StepMap, levels_at}
 use Rattle.room_core.specs.Reading.{words_from}
 use Rattle.room_core.specs.Settled.{is_write}
 use Rattle.ws_history.specs.Reports.{is_spent, state_by}
+use Rattle.ws_history.proofs.CallerLemmas.{ordinary_input}
 use Rattle.room_outcomes.specs.Ends.{end_of}
 use Rattle.room_search.specs.Ends.{DoEnd, SaysEnough, counts, end_by, ends_by, fields_by}
 use Rattle.room_search.specs.Saying.{DoSay, heard}
+use Rattle.room_search.proofs.Inputs.{input_by_words}
 
 map_same : {A : Type 0} (f g : ℕ → A) (a n : ℕ) → ((p : ℕ) → a ≤ p → p < a + n → f p ≡ g p) → map f (range_with_len a n) ≡ map g (range_with_len a n)
 map_same f g a zero same = refl
@@ -62,8 +65,11 @@ module _ (spec : RoomSpec) (limits : IsWithinLimits spec) (a b : List ℕ) (agre
   same_decided : (j : ℕ) → j < processes spec → decided_in spec (fields_by spec a) j ≡ decided_in spec (fields_by spec b) j
   same_decided j below = ap (λ (l : List ℕ). option_map (λ (out : ℕ). out - 1) (find is_out l)) (same_outs j below)
 
+  same_levels_in : (j k : ℕ) → j < processes spec → IsAgreementRound (sizes_in spec) k → levels_at spec (fields_by spec a) j k ≡ levels_at spec (fields_by spec b) j k
+  same_levels_in j k below round = map_same _ _ 0 spec.simulators (λ i low high. ap (λ (x : ℕ). level_of x i) (agree (places.Levels j k) (below, round) refl))
+
   same_levels : (j k : ℕ) → j < processes spec → 1 ≤ k → k ≤ spec.rounds → levels_at spec (fields_by spec a) j k ≡ levels_at spec (fields_by spec b) j k
-  same_levels j k below first last = map_same _ _ 0 spec.simulators (λ i low high. ap (λ (x : ℕ). level_of x i) (agree (places.Levels j k) (below, (first, last)) refl))
+  same_levels j k below first last = same_levels_in j k below (agreement_round (sizes_in spec) k (first, last))
 
   same_clean : (j k : ℕ) → j < processes spec → 1 ≤ k → k ≤ spec.rounds → is_clean spec (fields_by spec a) j k ≡ is_clean spec (fields_by spec b) j k
   same_clean j k below first last = ap agreement.is_clean (same_levels j k below first last)
@@ -102,7 +108,7 @@ module _ (spec : RoomSpec) (limits : IsWithinLimits spec) (a b : List ℕ) (agre
       let same : first_with spec (fields_by spec a) p r ≡ who = ap (λ (step : StepMap). unwrap_or (position (λ (one : ℕ). nat_le r one) (map (λ (i : ℕ). step i p) (range_with_len 0 spec.simulators))) 0) same_steps in
       let long = length-map-range_with_len (λ (i : ℕ). (fields_by spec b).step i p) 0 spec.simulators in
       let low : who < spec.simulators = subst (λ (m : ℕ). who < m) long (found_low (λ (step : ℕ). nat_le r step) (map (λ (i : ℕ). (fields_by spec b).step i p) (range_with_len 0 spec.simulators)) (omega (arith, long, some))) in
-      ap (λ (i : ℕ). (fields_by spec a).value i p r) same ∙ ap (λ (x : ℕ). min x greatest) (agree (places.Value who p r) (low, below, (first, last)) refl)
+      ap (λ (i : ℕ). (fields_by spec a).value i p r) same ∙ ap (λ (x : ℕ). min x greatest) (agree (places.Value who p r) (low, below, agreement_round (sizes_in spec) r (first, last)) refl)
 
   same_value : (p r : ℕ) → p < processes spec → r ≤ spec.rounds → shown spec (fields_by spec a) p r ≡ shown spec (fields_by spec b) p r
   same_value p zero below last = refl
@@ -119,10 +125,23 @@ module _ (spec : RoomSpec) (limits : IsWithinLimits spec) (a b : List ℕ) (agre
       let most = merged_below spec.simulators steps p spec.rounds (λ i low. step_below (sizes_in spec) words i p) in
       subst (λ (x : ℕ). x ≤ spec.rounds) (sym at) most
 
+  same_input : (j : ℕ) → j < processes spec → input_at spec (fields_by spec a) j ≡ input_at spec (fields_by spec b) j
+  same_input j below = elim (cases_Bool (is_reduction spec)) [
+    | inl kind ↦
+        let round = zero_agreed (sizes_in spec) kind in
+        let who : shown_of spec (fields_by spec a) j 0 ≡ shown_of spec (fields_by spec b) j 0 = ap (λ (l : List ℕ). unwrap_or (least_two l) 0) (same_levels_in j 0 below round) in
+        input_by_words spec a j some kind
+        ∙ ap (λ (i : ℕ). (fields_by spec a).value i j 0) who
+        ∙ ap (λ (x : ℕ). min x greatest) (agree (places.Value (shown_of spec (fields_by spec b) j 0) j 0) (shown_low j 0, below, round) refl)
+        ∙ sym (input_by_words spec b j some kind)
+    | inr kind ↦ ordinary_input spec (fields_by spec a) kind j ∙ sym (ordinary_input spec (fields_by spec b) kind j)
+  ]
+
   same_asks : (j k : ℕ) → j < processes spec → 1 ≤ k → k ≤ spec.rounds → is_clean spec (fields_by spec b) j k ≡ true → asks spec (fields_by spec a) j k ≡ asks spec (fields_by spec b) j k
   same_asks j k below first last clean =
-      ap (λ (row : List ℕ). next_action spec.protocol (slice_index spec.inputs j) j k (shown_by spec (fields_by spec a) row)) (same_row j k below first last clean)
-      ∙ ap (λ (l : List (Option ℕ)). next_action spec.protocol (slice_index spec.inputs j) j k l) (same_shown_by (row_at spec (fields_by spec b) j k) (row_low j k))
+      ap (λ (x : ℕ). next_action spec.protocol x j k (shown_by spec (fields_by spec a) (row_at spec (fields_by spec a) j k))) (same_input j below)
+      ∙ ap (λ (row : List ℕ). next_action spec.protocol (input_at spec (fields_by spec b) j) j k (shown_by spec (fields_by spec a) row)) (same_row j k below first last clean)
+      ∙ ap (λ (l : List (Option ℕ)). next_action spec.protocol (input_at spec (fields_by spec b) j) j k l) (same_shown_by (row_at spec (fields_by spec b) j k) (row_low j k))
 
   same_spent : (j : ℕ) → j < processes spec → is_spent spec (fields_by spec a) j ≡ is_spent spec (fields_by spec b) j
   same_spent j below =

@@ -1,5 +1,6 @@
 mod Steps
 mod Stored
+mod Inputs
 mod Enough
 mod WordsRead
 mod Ranges

@@ -11,11 +11,10 @@ use Rattle.room_core.specs.Reading.{AreFieldsOf}
 use Rattle.room_core.specs.Rooms.{Configuration}
 use Rattle.ws_history.specs.Reports.{report_of, states_of}
 use Rattle.ws_history.specs.declared.states.ProcessState.{ProcessState}
-use Rattle.room_outcomes.specs.Ends.{ends_of}
-use Rattle.room_outcomes.proofs.CallerLemmas.{reported_outcome}
+use Rattle.room_outcomes.specs.Ends.{IsRoomOutcome, ends_of}
+use Rattle.room_outcomes.proofs.CallerLemmas.{reported_room_outcome}
 use Rattle.room_sample.specs.Schedules.{IsSchedule, crashes_in}
 use Rattle.room_sample.specs.declared.stretch.Stretch.{Stretch}
-use Rattle.run_search.specs.Outcomes.{IsRunOutcome}
 use Rattle.run_search.specs.declared.ended.Ended.{Ended}
 use Rattle.room_search.specs.declared.choice.Choice.{Choice}
 use Rattle.room_search.specs.declared.local.Local.{Local}
@@ -47,10 +46,10 @@ pub spec_from : (spec : RoomSpec) (start : RoomState) (crashes : ℕ) (schedule 
 spec_from spec start crashes schedule room same settled = ap (λ (r : RoomState). r.spec) settled.room_is ∙ settled_spec start schedule ∙ same
 
 -- its outcome is one of a run of the protocol
-pub room_among : (spec : RoomSpec) (room : RoomState) (fields : Fields) (states : List ProcessState) → IsWithinLimits spec → room.spec ≡ spec → AreFieldsOf room fields → IsRead room states → IsRunOutcome spec (processes spec) (ends_of states)
+pub room_among : (spec : RoomSpec) (room : RoomState) (fields : Fields) (states : List ProcessState) → IsWithinLimits spec → room.spec ≡ spec → AreFieldsOf room fields → IsRead room states → IsRoomOutcome spec (processes spec) (ends_of states)
 room_among spec room fields states limits same are read =
-    subst (IsRunOutcome spec (processes spec)) (ap ends_of (sym (read fields are)))
-    (subst (λ (s : RoomSpec). IsRunOutcome s (processes s) (ends_of (states_of room.spec fields))) same (reported_outcome room fields (subst IsWithinLimits (sym same) limits) are))
+    subst (IsRoomOutcome spec (processes spec)) (ap ends_of (sym (read fields are)))
+    (subst (λ (s : RoomSpec). IsRoomOutcome s (processes s) (ends_of (states_of room.spec fields))) same (reported_room_outcome room fields (subst IsWithinLimits (sym same) limits) are))
 
 -- ---- a node that is taken
 

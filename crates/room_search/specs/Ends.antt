@@ -9,7 +9,8 @@ use Rattle.view_table.specs.Words.{word_at}
 use Rattle.view_table.specs.declared.place.Place.{Place}
 use Rattle.view_table.specs.declared.place.Place.TheVariants.{Memory, Levels, View, Value, Out}
 use Rattle.room_core.specs.Agreements.{decided_in}
-use Rattle.room_core.specs.Fields.{Fields}
+use Rattle.simulator.specs.Minds.{MindOf, opening_mind_of}
+use Rattle.room_core.specs.Fields.{Fields, StepMap, no_steps}
 use Rattle.room_core.specs.Reading.{fields_in}
 use Rattle.ws_history.specs.Readings.{small_fields}
 use Rattle.ws_history.specs.Reports.{is_spent, state_by}
@@ -17,9 +18,13 @@ use Rattle.run_search.specs.declared.ended.Ended.{Ended}
 use Rattle.room_outcomes.specs.Ends.{end_of}
 use Rattle.room_search.specs.Saying.{DoSay, heard}
 
--- the fields that the words of a room say
+-- a mind that has the input of each process
+abbrev pub knowing_all : RoomSpec → ℕ → MindOf StepMap
+knowing_all spec i = record (opening_mind_of no_steps spec i) { goals = [] }
+
+-- The fields that the words of a room say. In a reduction each process is taken for one whose input is known: one whose last snapshot can be read is.
 abbrev pub fields_by : RoomSpec → List ℕ → Fields
-fields_by spec words = small_fields (fields_in (record { spec = spec; words = words; sweeps = []; crashed = [] }))
+fields_by spec words = record (small_fields (fields_in (record { spec = spec; words = words; sweeps = []; crashed = [] }))) { mind = knowing_all spec }
 
 -- how process j ends: one that is held or still going counts as stopped
 abbrev pub end_by : RoomSpec → List ℕ → ℕ → Ended

@@ -8,8 +8,7 @@ use Rattle.room_core.specs.Reading.{AreFieldsOf}
 use Rattle.room_core.specs.Settled.{crashed_in}
 use Rattle.ws_history.specs.Reports.{report_of, states_of}
 use Rattle.run_search.specs.declared.ended.Ended.{Ended}
-use Rattle.run_search.specs.Outcomes.{IsRunOutcome}
-use Rattle.room_outcomes.specs.Ends.{ends_of}
+use Rattle.room_outcomes.specs.Ends.{IsRoomOutcome, ends_of}
 use Rattle.room_sample.specs.Schedules.{IsOutcome, IsSchedule, crashes_in, room_after_schedule}
 use Rattle.room_sample.specs.declared.stretch.Stretch.{Stretch}
 use Rattle.room_search.specs.Beginnings.{crash_count}
@@ -60,7 +59,7 @@ pub record AreAllReached (spec : RoomSpec) (crashes missed : ℕ) (outcomes : Li
   pub complete : missed ≡ 0 → (outcome : List Ended) → IsReachable spec crashes outcome → IsFound outcomes outcome
   pub sound : (one : Reached) → Contains outcomes one → IsReachedBy spec crashes one
   pub distinct : (i j : ℕ) (one other : Reached) → slice_get outcomes i ≡ Some one → slice_get outcomes j ≡ Some other → outcome_of one ≡ outcome_of other → i ≡ j
-  pub among : (one : Reached) → Contains outcomes one → IsRunOutcome spec (processes spec) (outcome_of one)
+  pub among : (one : Reached) → Contains outcomes one → IsRoomOutcome spec (processes spec) (outcome_of one)
 
 -- All outcomes that are open in a room if at most this many simulators crash: each once, with a schedule that leads to it from the room, and each an outcome of a run of the
 -- protocol. None is left out if no node was missed.
@@ -68,4 +67,4 @@ pub record AreAllOpen (start : RoomState) (spec : RoomSpec) (crashes missed : �
   pub complete : missed ≡ 0 → (outcome : List Ended) → IsOpen start spec crashes outcome → IsFound outcomes outcome
   pub sound : (one : Reached) → Contains outcomes one → IsReachedFrom start crashes one
   pub distinct : (i j : ℕ) (one other : Reached) → slice_get outcomes i ≡ Some one → slice_get outcomes j ≡ Some other → outcome_of one ≡ outcome_of other → i ≡ j
-  pub among : (one : Reached) → Contains outcomes one → IsRunOutcome spec (processes spec) (outcome_of one)
+  pub among : (one : Reached) → Contains outcomes one → IsRoomOutcome spec (processes spec) (outcome_of one)

@@ -3,11 +3,11 @@ use Rattle.std.specs.Prelude.{◌≡◌, ℕ, ◌<◌, Bool, true, false, List, 
 use Rattle.room_spec.specs.Rooms.{RoomSpec, processes}
 use Rattle.view_table.specs.declared.place.Place.TheVariants.{Levels}
 use Rattle.simulator.specs.declared.goal.Goal.{Goal}
-use Rattle.simulator.specs.declared.goal.Goal.TheVariants.{Write, Ask, Done, Spent}
+use Rattle.simulator.specs.declared.goal.Goal.TheVariants.{Write, Ask, Propose, AskInput, Done, Spent}
 use Rattle.simulator.specs.Minds.{goal_at}
 use Rattle.simulator.specs.Moves.{chosen_in, index_in}
 
--- by the words, no proposal is chosen in the agreement on the snapshot of process j in round k
+-- by the words, no proposal is chosen in the agreement on the snapshot of process j in round k, or on its input in the round 0
 abbrev pub is_unresolved : RoomSpec → List ℕ → ℕ → ℕ → Bool
 is_unresolved spec words j k = not (is_some (chosen_in spec (slice_index words (index_in spec (Levels j k)))))
 
@@ -15,6 +15,8 @@ is_unresolved spec words j k = not (is_some (chosen_in spec (slice_index words (
 abbrev pub waits : RoomSpec → List ℕ → ℕ → Goal → Bool
 waits spec words j (Write k value) = false
 waits spec words j (Ask k) = is_unresolved spec words j k
+waits spec words j (Propose value) = false
+waits spec words j AskInput = is_unresolved spec words j 0
 waits spec words j Done = true
 waits spec words j Spent = true
 

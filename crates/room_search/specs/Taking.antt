@@ -7,7 +7,8 @@ use Rattle.room_core.specs.Rooms.{Configuration, crashed_at}
 use Rattle.room_sample.specs.Schedules.{IsSchedule, crashes_in, room_after_schedule}
 use Rattle.room_sample.specs.declared.stretch.Stretch.{Stretch}
 use Rattle.simulator.specs.Knowing.{mind_of}
-use Rattle.run_search.specs.Outcomes.{Ends, IsRunOutcome}
+use Rattle.room_outcomes.specs.Ends.{IsRoomOutcome}
+use Rattle.run_search.specs.Outcomes.{Ends}
 use Rattle.room_search.specs.declared.choice.Choice.{Choice}
 use Rattle.room_search.specs.declared.local.Local.{Local}
 use Rattle.room_search.specs.declared.reached.Reached.{Reached}
@@ -103,4 +104,4 @@ pub record IsSettledFrom (start : RoomState) (crashes : ℕ) (schedule : List St
 pub record IsTaking (spec : RoomSpec) (start : RoomState) (crashes : ℕ) (taking : Taking) : Type 0 where
   pub kept : AreKept taking.ends.keys taking.outcomes.items
   pub reached : (reached : Reached) → Contains taking.outcomes.items reached → IsReachedFrom start crashes reached
-  pub among : (reached : Reached) → Contains taking.outcomes.items reached → IsRunOutcome spec (processes spec) (outcome_of reached)
+  pub among : (reached : Reached) → Contains taking.outcomes.items reached → IsRoomOutcome spec (processes spec) (outcome_of reached)

@@ -4,11 +4,11 @@ ghost use Rattle.protocol_lang.specs.Numbers.{greatest};
 ghost use Rattle.room_spec.specs.Rooms.{processes};
 ghost use Rattle.room_spec.specs.Sizes.{memory_words, sizes_in};
 ghost use Rattle.level_cells.specs.Fields.{level_of};
-ghost use Rattle.view_table.specs.Places.{IsPlace, IsRound, index_of, words_of};
+ghost use Rattle.view_table.specs.Places.{IsAgreementRound, IsPlace, IsRound, index_of, words_of};
 ghost use Rattle.view_table.specs.Words.{word_at};
 ghost use Rattle.view_table.specs.declared.place.Place.TheVariants.{Levels, View as ViewPlace};
 ghost use Rattle.sim_memory.specs.Steps.{row_of, step_in};
-ghost use Rattle.room_core.specs.Agreements.{asks, decided_in, first_with, row_at, shown, shown_by, shown_of, written};
+ghost use Rattle.room_core.specs.Agreements.{asks, decided_in, first_with, input_at, row_at, shown, shown_by, shown_of, written};
 ghost use Rattle.ws_history.specs.Reports.{is_spent};
 ghost use Rattle.room_search.specs.Ends.{end_by, ends_by, fields_by};
 ghost use Rattle.room_search.specs.Steps.{AreWords};
@@ -95,6 +95,7 @@ fn out(subject: &Subject<'_>, words: &[u64], i: usize, j: usize) -> u64
 }
 
 /// Whether the last snapshot of process `j` was agreed on and asks for a write.
+#[tactic(auto, using(view_table::proofs::CallerLemmas::agreement_round))]
 fn is_spent(subject: &Subject<'_>, words: &[u64], j: usize) -> bool
     requires process { j < processes subject.now.spec.now }
     requires words { AreWords subject.now.spec.now words.now }
@@ -108,7 +109,7 @@ fn is_spent(subject: &Subject<'_>, words: &[u64], j: usize) -> bool
 /// The word of levels of the agreement on process `j` and round `k`.
 fn levels_word(subject: &Subject<'_>, words: &[u64], j: usize, k: usize) -> u64
     requires process { j < processes subject.now.spec.now }
-    requires round { IsRound (sizes_in subject.now.spec.now) k }
+    requires round { IsAgreementRound (sizes_in subject.now.spec.now) k }
     requires words { AreWords subject.now.spec.now words.now }
     ensures { result ≡ word_at (sizes_in subject.now.spec.now) words.now (Levels j k) }
 {
@@ -131,7 +132,26 @@ fn asks(subject: &Subject<'_>, words: &[u64], j: usize, k: usize) -> Action
     let view = shown_by(subject, words, row.as_slice());
     let rounds = spec.rounds();
     prove!(k <= rounds);
-    next(spec.protocol(), spec.input(j), j as u32, k as u32, &view)
+    let input = input_by(subject, words, j);
+    next(spec.protocol(), input, j as u32, k as u32, &view)
+}
+
+/// The input of process `j`: in a reduction that which the agreement on it shows.
+#[tactic(auto, using(view_table::proofs::CallerLemmas::zero_agreed))]
+fn input_by(subject: &Subject<'_>, words: &[u64], j: usize) -> u32
+    requires process { j < processes subject.now.spec.now }
+    requires words { AreWords subject.now.spec.now words.now }
+    ensures { result ≡ input_at subject.now.spec.now (fields_by subject.now.spec.now words.now) j }
+{
+    if !subject.spec.is_reduction() {
+        return subject.spec.input(j);
+    }
+    let proposal = Place::Value {
+        simulator: shown_of(subject, words, j, 0),
+        process: j,
+        round: 0,
+    };
+    small(word_at(subject, words, proposal))
 }
 
 /// How many writes of each process the view shows on which this agreement agreed.
@@ -148,6 +168,7 @@ fn row_at(subject: &Subject<'_>, words: &[u64], j: usize, k: usize) -> Row
 }
 
 /// Where among the words the view begins.
+#[tactic(auto, using(view_table::proofs::CallerLemmas::agreement_round))]
 fn view_start(subject: &Subject<'_>, words: &[u64], j: usize, k: usize) -> usize
     requires process { j < processes subject.now.spec.now }
     requires round { IsRound (sizes_in subject.now.spec.now) k }
@@ -167,7 +188,7 @@ fn view_start(subject: &Subject<'_>, words: &[u64], j: usize, k: usize) -> usize
 /// The least simulator at level 2 in this agreement, or 0.
 fn shown_of(subject: &Subject<'_>, words: &[u64], j: usize, k: usize) -> usize
     requires process { j < processes subject.now.spec.now }
-    requires round { IsRound (sizes_in subject.now.spec.now) k }
+    requires round { IsAgreementRound (sizes_in subject.now.spec.now) k }
     requires words { AreWords subject.now.spec.now words.now }
     ensures value { result ≡ shown_of subject.now.spec.now (fields_by subject.now.spec.now words.now) j k }
     ensures below { result < subject.now.spec.now.simulators }
@@ -223,6 +244,7 @@ fn shown_at(subject: &Subject<'_>, words: &[u64], p: usize, r: u8) -> Option<u32
 }
 
 /// The value of write `r` of process `p`.
+#[tactic(auto, using(view_table::proofs::CallerLemmas::agreement_round))]
 fn written(subject: &Subject<'_>, words: &[u64], p: usize, r: usize) -> u32
     requires process { p < processes subject.now.spec.now }
     requires round { IsRound (sizes_in subject.now.spec.now) r }
@@ -279,7 +301,7 @@ pub fn is_at_two(
 ) -> bool
     requires simulator { simulator < subject.now.spec.now.simulators }
     requires process { process < processes subject.now.spec.now }
-    requires round { IsRound (sizes_in subject.now.spec.now) round }
+    requires round { IsAgreementRound (sizes_in subject.now.spec.now) round }
     requires words { AreWords subject.now.spec.now words.now }
     ensures { result ≡ (level_of (word_at (sizes_in subject.now.spec.now) words.now (Levels process round)) simulator == 2) }
 {

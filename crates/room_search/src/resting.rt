@@ -1,6 +1,8 @@
 //! Simulators that can go no further.
 ghost use Rattle.std.specs.Prelude.{◌≡◌, ◌<◌, ◌≤◌, ℕ, List, false, is_some, length, not, slice_index};
 ghost use Rattle.room_spec.specs.Rooms.{processes};
+ghost use Rattle.room_spec.specs.Sizes.{sizes_in};
+ghost use Rattle.view_table.specs.Places.{IsAgreementRound};
 ghost use Rattle.view_table.specs.declared.place.Place.TheVariants.{Levels};
 ghost use Rattle.simulator.specs.Knowing.{mind_of};
 ghost use Rattle.simulator.specs.Moves.{chosen_in, index_in};
@@ -30,23 +32,25 @@ pub fn may_rest(subject: &Subject<'_>, said: &[u64], known: &Knowledge) -> bool
 }
 
 /// Whether nothing may be left to do for process `j` in a mind with this goal.
+#[tactic(auto, using(view_table::proofs::CallerLemmas::agreement_round, view_table::proofs::CallerLemmas::zero_agreed))]
 fn may_wait(subject: &Subject<'_>, said: &[u64], j: usize, goal: Goal) -> bool
     requires process { j < processes subject.now.spec.now }
-    requires goal { IsGoal subject.now.spec.now.rounds goal }
+    requires goal { IsGoal (sizes_in subject.now.spec.now) goal }
     requires said { AreWords subject.now.spec.now said.now }
     ensures { result ≡ false → (words : List ℕ) → DoSay said.now words → waits subject.now.spec.now words j goal ≡ false }
 {
     match goal {
-        Goal::Write { .. } => false,
+        Goal::Write { .. } | Goal::Propose { .. } => false,
         Goal::Ask { round } => may_be_unresolved(subject, said, j, round),
+        Goal::AskInput => may_be_unresolved(subject, said, j, 0),
         Goal::Done | Goal::Spent => true,
     }
 }
 
-/// Whether the agreement on the snapshot of process `j` in this round may not be resolved.
+/// Whether the agreement on the snapshot of process `j` in this round, or in the round 0 on its input, may not be resolved.
 fn may_be_unresolved(subject: &Subject<'_>, said: &[u64], j: usize, round: u8) -> bool
     requires process { j < processes subject.now.spec.now }
-    requires round { (1 ≤ round) × (round ≤ subject.now.spec.now.rounds) }
+    requires round { IsAgreementRound (sizes_in subject.now.spec.now) round }
     requires said { AreWords subject.now.spec.now said.now }
     ensures { result ≡ false → (words : List ℕ) → DoSay said.now words → is_unresolved subject.now.spec.now words j round ≡ false }
 {
@@ -60,7 +64,7 @@ fn may_be_unresolved(subject: &Subject<'_>, said: &[u64], j: usize, round: u8) -
 /// What is said of the word of levels of that agreement.
 fn levels_number(subject: &Subject<'_>, said: &[u64], j: usize, round: u8) -> u64
     requires process { j < processes subject.now.spec.now }
-    requires round { (1 ≤ round) × (round ≤ subject.now.spec.now.rounds) }
+    requires round { IsAgreementRound (sizes_in subject.now.spec.now) round }
     requires said { AreWords subject.now.spec.now said.now }
     ensures value { result ≡ slice_index said.now (index_in subject.now.spec.now (Levels j round)) }
     ensures within { index_in subject.now.spec.now (Levels j round) < length said.now }

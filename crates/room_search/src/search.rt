@@ -2,7 +2,7 @@
 ghost use Rattle.std.specs.Prelude.{◌≡◌, ◌≤◌, ◌⊎◌, ℕ, IfOk, List, OnOk, Some, false, length, slice_get};
 ghost use Rattle.std.specs.List.{Contains};
 ghost use Rattle.room_spec.specs.Rooms.{processes};
-ghost use Rattle.run_search.specs.Outcomes.{IsRunOutcome};
+ghost use Rattle.room_outcomes.specs.Ends.{IsRoomOutcome};
 ghost use Rattle.run_search.specs.declared.ended.Ended.{Ended as EndedValue};
 ghost use Rattle.room_core.specs.Calls.{configuration_of};
 ghost use Rattle.room_search.specs.Nodes.{Node as NodeValue};
@@ -55,8 +55,9 @@ pub fn search_room<P: Progress>(
     ensures distinct { IfOk result (λ reach. (i j : ℕ) (one other : ReachedValue) →
         slice_get reach.outcomes.items i ≡ Some one → slice_get reach.outcomes.items j ≡ Some other → outcome_of one ≡ outcome_of other →
         i ≡ j) }
-    // Each is an outcome of a run of the protocol, with those processes stopped that are held or going on.
-    ensures among { IfOk result (λ reach. (reached : ReachedValue) → Contains reach.outcomes.items reached → IsRunOutcome spec.now (processes spec.now) (outcome_of reached)) }
+    // Each is an outcome of a run of the protocol, with those processes stopped that are held or going on: in a reduction of a run from inputs that are
+    // the simulators' own.
+    ensures among { IfOk result (λ reach. (reached : ReachedValue) → Contains reach.outcomes.items reached → IsRoomOutcome spec.now (processes spec.now) (outcome_of reached)) }
     ensures nodes { IfOk result (λ reach. reach.nodes ≤ limit) }
 {
     let from = Beginning { spec, acts: &[] };
@@ -87,9 +88,10 @@ pub fn search_after<P: Progress>(
     ensures distinct { IfOk result (λ reach. (i j : ℕ) (one other : ReachedValue) →
         slice_get reach.outcomes.items i ≡ Some one → slice_get reach.outcomes.items j ≡ Some other → outcome_of one ≡ outcome_of other →
         i ≡ j) }
-    // Each is an outcome of a run of the protocol, with those processes stopped that are held or going on.
+    // Each is an outcome of a run of the protocol, with those processes stopped that are held or going on: in a reduction of a run from inputs that are
+    // the simulators' own.
     ensures among { IfOk result (λ reach. (reached : ReachedValue) → Contains reach.outcomes.items reached →
-        IsRunOutcome from.now.spec.now (processes from.now.spec.now) (outcome_of reached)) }
+        IsRoomOutcome from.now.spec.now (processes from.now.spec.now) (outcome_of reached)) }
     ensures nodes { IfOk result (λ reach. reach.nodes ≤ limit) }
 {
     each_is_settled_for(); // for the proof: a simulator that has settled can go no further

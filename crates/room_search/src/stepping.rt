@@ -1,6 +1,6 @@
 //! The steps of a simulator from its local states.
-ghost use Rattle.std.specs.Prelude.{◌≡◌, ◌<◌, ◌≤◌, IfOk, IfSome, MatchBool, length};
-ghost use Rattle.room_spec.specs.Rooms.{RoomSpec, processes};
+ghost use Rattle.std.specs.Prelude.{◌≡◌, ◌<◌, ◌≤◌, true, IfOk, IfSome, MatchBool, length};
+ghost use Rattle.room_spec.specs.Rooms.{RoomSpec, is_reduction, processes};
 ghost use Rattle.simulator.specs.Moves.{IsOperation};
 ghost use Rattle.simulator.specs.Ranges.{IsMind};
 ghost use Rattle.room_search.specs.Steps.{AreSaid, AreWords, IsLocal, IsNext, SaysNoMore, local_of};
@@ -97,7 +97,7 @@ fn pass_on(subject: &Subject<'_>, i: usize, mind: &Mind, said: &mut Said)
     ensures { SaysNoMore subject.now.spec.now said.old said.new }
 {
     let Some((process, round)) = turn_of(subject, mind) else {
-        return;
+        return pass_on_input(subject, i, mind, said);
     };
     match mind.line() {
         Line::Raise => pass_value(subject, i, process, round, said),
@@ -106,7 +106,25 @@ fn pass_on(subject: &Subject<'_>, i: usize, mind: &Mind, said: &mut Said)
     }
 }
 
-/// The process and the round on which the simulator's next step works.
+/// The same in the agreements of a reduction on inputs. A proposal that is withdrawn stays the simulator's: it is its own input, whatever the schedule.
+fn pass_on_input(subject: &Subject<'_>, i: usize, mind: &Mind, said: &mut Said)
+    requires mind { IsMind subject.now.spec.now mind.now }
+    requires simulator { i < subject.now.spec.now.simulators }
+    requires said { AreSaid subject.now.spec.now said.old }
+    ensures { SaysNoMore subject.now.spec.now said.old said.new }
+{
+    let Some(process) = mind.works_on(subject.spec) else {
+        return;
+    };
+    if !subject.spec.is_reduction() || process >= subject.spec.n() {
+        return;
+    }
+    if let Line::Leave { saw_two: false } = mind.line() {
+        pass_input(subject, i, process, said);
+    }
+}
+
+/// The process and the round, from 1 on, on which the simulator's next step works.
 fn turn_of(subject: &Subject<'_>, mind: &Mind) -> Option<(usize, usize)>
     requires { IsMind subject.now.spec.now mind.now }
     ensures process { IfSome result (λ turn. turn.0 < processes subject.now.spec.now) }
@@ -133,6 +151,23 @@ fn pass_value(subject: &Subject<'_>, i: usize, process: usize, round: usize, sai
         simulator: i,
         process,
         round,
+    };
+    said.publish(index(&subject.spec.shape(), value));
+}
+
+/// The simulator has left the agreement on the process's input with its proposal, which others can read from now on.
+#[tactic(auto, using(view_table::proofs::CallerLemmas::zero_agreed))]
+fn pass_input(subject: &Subject<'_>, i: usize, process: usize, said: &mut Said)
+    requires reduction { is_reduction subject.now.spec.now ≡ true }
+    requires simulator { i < subject.now.spec.now.simulators }
+    requires process { process < processes subject.now.spec.now }
+    requires said { AreSaid subject.now.spec.now said.old }
+    ensures { SaysNoMore subject.now.spec.now said.old said.new }
+{
+    let value = Place::Value {
+        simulator: i,
+        process,
+        round: 0,
     };
     said.publish(index(&subject.spec.shape(), value));
 }

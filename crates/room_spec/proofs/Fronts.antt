@@ -6,7 +6,7 @@ use Rattle.std.specs.Option.{option_map}
 use Rattle.std.proofs.lemmas.List.{append_assoc, length-append, length-take-le, take_all, take_at, take-take}
 use Rattle.room_spec.specs.Texts.{is_line_end, lines_of, pieces_of}
 use Rattle.protocol_lang.specs.Results.{◌>>=◌}
-use Rattle.room_spec.specs.Blocks.{body_len, block_len, block_in, is_end, room_in, room_before, GivesOrMemory, IsEnded, MayLackAt, MayLackIn, OrMemory}
+use Rattle.room_spec.specs.Blocks.{body_len, block_len, is_end, before_end, reduction_in, reduction_text_in, GivesOrMemory, IsEnded, MayLackAtBy, MayLackBy, OrMemory}
 use Rattle.room_spec.specs.Grammar.{EndsAt, are_before_end, line_end, text_of}
 use Rattle.room_spec.specs.Rooms.{RoomSpec}
 use Rattle.room_spec.specs.declared.fault.SpecFault.{SpecFault}
@@ -85,10 +85,10 @@ nowhere_in text is = block_nowhere text (sym (no_body text (body_len text) is))
 
 -- ---- what it says
 
-lines_read : (text : List ℕ) (body : Option ℕ) (before : List ℕ) → body ≡ Some (length before) → before ≡ take (length before) text → option_map (λ n. min (n + 4) (length text)) body ≡ Some (length text)
-    → room_before text body ≡ (room_in before >>= λ room. Ok (room, length text))
-lines_read text None before is front whole = absurd cc
-lines_read text (Some body) before is front whole =
+lines_read : (reader : List ℕ → Result RoomSpec SpecFault) (text : List ℕ) (body : Option ℕ) (before : List ℕ) → body ≡ Some (length before) → before ≡ take (length before) text → option_map (λ n. min (n + 4) (length text)) body ≡ Some (length text)
+    → before_end reader text body ≡ (reader before >>= λ room. Ok (room, length text))
+lines_read reader text None before is front whole = absurd cc
+lines_read reader text (Some body) before is front whole =
     let same : body ≡ length before = cc in
     let len : min (body + 4) (length text) ≡ length text = cc in
     rw (len, same, ← front) refl
@@ -98,38 +98,41 @@ gives lacks also (Ok room) wanted len more (inl is) = rw (← is) refl
 gives lacks also (Ok room) wanted len more (inr is) = absurd (let never = is.0 in cc)
 gives lacks also (Err fault) wanted len more found = refused_on lacks also fault wanted (λ room. (room, len)) more found
 
-pub block_says : (text body : List ℕ) (lines : ℕ) (result : Result RoomSpec SpecFault) → IsEnded text body lines → OrMemory (MayLackIn body) result (room_in body) → GivesOrMemory {Y = RoomSpec × ℕ} (MayLackAt text) (λ room. (room, length text)) result (block_in text)
-block_says text body lines result ended found = rw (lines_read text (body_len text) body ended.body_is ended.bytes ended.whole) (gives (MayLackIn body) (MayLackAt text) result (room_in body) (length text) (λ lacks. record { body = length body; ends = ended.body_is; lines = subst MayLackIn ended.bytes lacks }) found)
+pub block_says : (reader : List ℕ → Result RoomSpec SpecFault) (text_in : List ℕ → Result (List ℕ) SpecFault) (text body : List ℕ) (lines : ℕ) (result : Result RoomSpec SpecFault) → IsEnded text body lines → OrMemory (MayLackBy text_in body) result (reader body) → GivesOrMemory {Y = RoomSpec × ℕ} (MayLackAtBy text_in text) (λ room. (room, length text)) result (before_end reader text (body_len text))
+block_says reader text_in text body lines result ended found = rw (lines_read reader text (body_len text) body ended.body_is ended.bytes ended.whole) (gives (MayLackBy text_in body) (MayLackAtBy text_in text) result (reader body) (length text) (λ lacks. record { body = length body; ends = ended.body_is; lines = subst (MayLackBy text_in) ended.bytes lacks }) found)
+
+pub reduction_says : (text body : List ℕ) (lines : ℕ) (result : Result RoomSpec SpecFault) → IsEnded text body lines → OrMemory (MayLackBy reduction_text_in body) result (reduction_in body) → GivesOrMemory {Y = RoomSpec × ℕ} (MayLackAtBy reduction_text_in text) (λ room. (room, length text)) result (before_end reduction_in text (body_len text))
+reduction_says text body lines result ended found = block_says reduction_in reduction_text_in text body lines result ended found
 
 body_within : (text : List ℕ) (body : ℕ) → body_len text ≡ Some body → body ≤ length text
 body_within text body found =
     let end = end_found text body found in
     omega (arith, end.extent, ap length end.parts, length-append (text_of end.lines) (codes "end" ++ with_line_end end.later))
 
-same_says : (text block : List ℕ) (body : ℕ) (of_block of_text : Option ℕ) → of_block ≡ Some body → of_text ≡ Some body → take body block ≡ take body text → min (body + 4) (length block) ≡ min (body + 4) (length text)
-    → room_before block of_block ≡ room_before text of_text
-same_says text block body of_block of_text ends found before long = rw (ends, found, before, long) refl
+same_says : (reader : List ℕ → Result RoomSpec SpecFault) (text block : List ℕ) (body : ℕ) (of_block of_text : Option ℕ) → of_block ≡ Some body → of_text ≡ Some body → take body block ≡ take body text → min (body + 4) (length block) ≡ min (body + 4) (length text)
+    → before_end reader block of_block ≡ before_end reader text of_text
+same_says reader text block body of_block of_text ends found before long = rw (ends, found, before, long) refl
 
 -- a text says what the block at its front says
-pub front_says : (text block : List ℕ) → block_len text ≡ Some (length block) → block ≡ take (length block) text → block_in block ≡ block_in text
-front_says text block len front =
+pub front_says : (reader : List ℕ → Result RoomSpec SpecFault) (text block : List ℕ) → block_len text ≡ Some (length block) → block ≡ take (length block) text → before_end reader block (body_len block) ≡ before_end reader text (body_len text)
+front_says reader text block len front =
     let found = some_body text (body_len text) (length block) len in
     let body = found.0 in
     let same = same_end text body (length block) (sym found.1) found.2 in
     let ends : body_len block ≡ Some body = ap body_len front ∙ same.0 in
     let before : take body block ≡ take body text = ap (take body) front ∙ take-take body (length block) text (omega (arith, found.2, body_within text body found.1)) in
-    same_says text block body (body_len block) (body_len text) ends found.1 before (omega (arith, found.2))
+    same_says reader text block body (body_len block) (body_len text) ends found.1 before (omega (arith, found.2))
 
 -- what lacks memory in the block at a text's front lacks it in the text
-pub front_lacks : (text block : List ℕ) → block_len text ≡ Some (length block) → block ≡ take (length block) text → MayLackAt block → MayLackAt text
-front_lacks text block len front lacks =
+pub front_lacks : (text_in : List ℕ → Result (List ℕ) SpecFault) (text block : List ℕ) → block_len text ≡ Some (length block) → block ≡ take (length block) text → MayLackAtBy text_in block → MayLackAtBy text_in text
+front_lacks text_in text block len front lacks =
     let found = some_body text (body_len text) (length block) len in
     let body = found.0 in
     let same = same_end text body (length block) (sym found.1) found.2 in
     let ends : body_len block ≡ Some body = ap body_len front ∙ same.0 in
     let is : lacks.body ≡ body = some_same lacks.body body (sym lacks.ends ∙ ends) in
     let before : take body block ≡ take body text = ap (take body) front ∙ take-take body (length block) text (omega (arith, found.2, body_within text body found.1)) in
-    record { body = body; ends = found.1; lines = subst MayLackIn (ap (λ (n : ℕ). take n block) is ∙ before) lacks.lines }
+    record { body = body; ends = found.1; lines = subst (MayLackBy text_in) (ap (λ (n : ℕ). take n block) is ∙ before) lacks.lines }
   where
     some_same : (a b : ℕ) → Some a ≡ Some b → a ≡ b
     some_same a b e = cc

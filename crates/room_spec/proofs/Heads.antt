@@ -16,8 +16,8 @@ use Rattle.room_spec.specs.Names.{is_name}
 use Rattle.room_spec.specs.Texts.{is_space, first_line, later_lines, fields_of}
 use Rattle.room_spec.specs.Rooms.{is_value}
 use Rattle.protocol_lang.specs.Results.{◌>>=◌}
-use Rattle.room_spec.specs.Blocks.{value_after, version_of, version_line, named, name_line, with_number, numbers_of, inputs_of, are_inputs, in_range, inputs_line, up_to, number_line, agreed, task_of, task_words}
-use Rattle.room_spec.specs.Grammar.{version_text, agree_line, IsTaskLine}
+use Rattle.room_spec.specs.Blocks.{value_after, version_of, version_line, named, name_line, with_number, numbers_of, inputs_of, are_values, are_inputs, up_to_values, in_range, inputs_line, own_line, reduction_of, reduction_line, up_to, number_line, agreed, task_of, task_words}
+use Rattle.room_spec.specs.Grammar.{version_text, values_line, agree_line, IsTaskLine}
 use Rattle.room_spec.specs.declared.version.Version.{Version}
 use Rattle.room_spec.specs.declared.version.Version.TheVariants.{One, Two}
 use Rattle.room_spec.specs.declared.fault.SpecFault.{SpecFault}
@@ -72,6 +72,21 @@ version_found text read e =
 
 pub version_again : (text : List ℕ) (version : Version) → first_line text ≡ version_text version → version_line text ≡ Ok (version, later_lines text)
 version_again text version is = rw (is, version_known version) refl
+
+-- the line of a reduction
+pub reduction_said : (line : List ℕ) (version : Version) → reduction_of line ≡ Ok version → (line ≡ codes "reduction 1") × (Two ≡ version)
+reduction_said line version e =
+    let parts = guard_ok (bytes_eq line (codes "reduction 1")) (BadLine 1) Two version e in
+    ((bytes_eq-Decides line (codes "reduction 1")).0 parts.0, parts.1)
+
+pub reduction_found : (text : List ℕ) (read : Version × List ℕ) → reduction_line text ≡ Ok read → (first_line text ≡ codes "reduction 1") × (Two ≡ read.0) × (later_lines text ≡ read.1)
+reduction_found text read e =
+    let parts = with_rest (reduction_of (first_line text)) (later_lines text) read e in
+    let line = reduction_said (first_line text) read.0 parts.0 in
+    (line.0, line.1, parts.1)
+
+pub reduction_again : (text : List ℕ) → first_line text ≡ codes "reduction 1" → reduction_line text ≡ Ok (Two, later_lines text)
+reduction_again text is = rw is refl
 
 -- ---- lines of a word and a value
 
@@ -162,21 +177,37 @@ inputs_spelled (word ∷ fields) values e all =
     let parts = test_found (bytes_eq word (codes "inputs")) (numbers_of fields) values e in
     ap (λ (w : List ℕ). w ∷ fields) ((bytes_eq-Decides word (codes "inputs")).0 parts.0) ∙ ap (λ (f : List (List ℕ)). codes "inputs" ∷ f) (values_found fields values parts.1 all)
 
+pub values_in_range : (most : ℕ) (found : Option (List ℕ)) (values : List ℕ) → up_to_values most found ≡ Ok values → (found ≡ Some values) × (are_values most values ≡ true)
+values_in_range most None values e = absurd cc
+values_in_range most (Some read) values e =
+    let parts = guard_ok (are_values most read) Inputs read values e in
+    (ap Some parts.1, subst (λ (v : List ℕ). are_values most v ≡ true) parts.1 parts.0)
+
 pub inputs_in_range : (found : Option (List ℕ)) (values : List ℕ) → in_range found ≡ Ok values → (found ≡ Some values) × (are_inputs values ≡ true)
-inputs_in_range None values e = absurd cc
-inputs_in_range (Some read) values e =
-    let parts = guard_ok (are_inputs read) Inputs read values e in
-    (ap Some parts.1, subst (λ (v : List ℕ). are_inputs v ≡ true) parts.1 parts.0)
+inputs_in_range found values e = values_in_range 16 found values e
+
+pub are_all_values : (most : ℕ) (values : List ℕ) → are_values most values ≡ true → list_all is_value values ≡ true
+are_all_values most values are = (and_parts _ (list_all is_value values) are).1
 
 pub inputs_are_values : (values : List ℕ) → are_inputs values ≡ true → list_all is_value values ≡ true
-inputs_are_values values are = (and_parts _ (list_all is_value values) are).1
+inputs_are_values values are = are_all_values 16 values are
 
-pub inputs_found : (text : List ℕ) (read : List ℕ × List ℕ) → inputs_line text ≡ Ok read → (first_line text ≡ join_with_byte 32 (codes "inputs" ∷ map decimal read.0)) × (later_lines text ≡ read.1) × (are_inputs read.0 ≡ true)
-inputs_found text read e =
-    let parts = with_rest (in_range (inputs_of (fields_of (first_line text)))) (later_lines text) read e in
-    let values = inputs_in_range (inputs_of (fields_of (first_line text))) read.0 parts.0 in
-    let pieces = inputs_spelled (fields_of (first_line text)) read.0 values.0 (inputs_are_values read.0 values.1) in
+-- a line of inputs, of which there are at most this number
+abbrev pub some_inputs_line : ℕ → List ℕ → Result (List ℕ × List ℕ) SpecFault
+some_inputs_line most text = up_to_values most (inputs_of (fields_of (first_line text))) >>= λ values. Ok (values, later_lines text)
+
+pub some_inputs_found : (most : ℕ) (text : List ℕ) (read : List ℕ × List ℕ) → some_inputs_line most text ≡ Ok read → (first_line text ≡ values_line read.0) × (later_lines text ≡ read.1) × (are_values most read.0 ≡ true)
+some_inputs_found most text read e =
+    let parts = with_rest (up_to_values most (inputs_of (fields_of (first_line text)))) (later_lines text) read e in
+    let values = values_in_range most (inputs_of (fields_of (first_line text))) read.0 parts.0 in
+    let pieces = inputs_spelled (fields_of (first_line text)) read.0 values.0 (are_all_values most read.0 values.1) in
     (sym (join_with_byte-slice_split 32 (first_line text)) ∙ ap (join_with_byte 32) pieces, parts.1, values.1)
+
+pub inputs_found : (text : List ℕ) (read : List ℕ × List ℕ) → inputs_line text ≡ Ok read → (first_line text ≡ values_line read.0) × (later_lines text ≡ read.1) × (are_inputs read.0 ≡ true)
+inputs_found text read e = some_inputs_found 16 text read e
+
+pub own_found : (text : List ℕ) (read : List ℕ × List ℕ) → own_line text ≡ Ok read → (first_line text ≡ values_line read.0) × (later_lines text ≡ read.1) × (are_values 8 read.0 ≡ true)
+own_found text read e = some_inputs_found 8 text read e
 
 -- pieces that have no such byte come back from where they are joined by it
 pub pieces_again : (p : ℕ → Bool) (byte : ℕ) (piece : List ℕ) (pieces : List (List ℕ)) → p byte ≡ true → pass_none p (piece ∷ pieces) ≡ true → slice_split p (join_with_byte byte (piece ∷ pieces)) ≡ piece ∷ pieces
@@ -197,15 +228,15 @@ values_again (value ∷ values) all =
     let each = and_parts (is_value value) (list_all is_value values) all in
     rw (number_from value (small_value value each.0), values_again values each.1) refl
 
-pub inputs_again : (text values : List ℕ) → first_line text ≡ join_with_byte 32 (codes "inputs" ∷ map decimal values) → are_inputs values ≡ true → inputs_line text ≡ Ok (values, later_lines text)
-inputs_again text values line are =
-    let all = inputs_are_values values are in
+pub some_inputs_again : (most : ℕ) (text values : List ℕ) → first_line text ≡ values_line values → are_values most values ≡ true → some_inputs_line most text ≡ Ok (values, later_lines text)
+some_inputs_again most text values line are =
+    let all = are_all_values most values are in
     let fields : fields_of (first_line text) ≡ codes "inputs" ∷ map decimal values = ap fields_of line ∙ pieces_again is_space 32 (codes "inputs") (map decimal values) refl (decimals_pass values all) in
     rw (fields, values_again values all, are) refl
 
 -- ---- the line of a task
 
--- that a task is told, by the words behind `task`
+-- that a task is said, by the words after `task`
 pub agreed_found : (found : Option ℕ) (most : ℕ) → agreed found ≡ Ok most → (found ≡ Some most) × (1 ≤ most) × (most ≤ 16)
 agreed_found None most e = absurd cc
 agreed_found (Some read) most e =

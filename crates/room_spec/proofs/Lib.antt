@@ -10,12 +10,15 @@ mod Numerals
 mod Heads
 mod Fuses
 mod Readings
+mod Reductions
 mod Locality
 mod Standing
 mod LineFaults
 mod FirstFaults
 mod Memory
+mod HeadParts
 mod Values
 mod Worked
 mod Places
 mod MemoryWords
+mod OtherInputs

@@ -1,5 +1,5 @@
 -- The faults of each line of a head.
-use Rattle.std.proofs.Common.{◌≡◌, ℕ, ◌^◌, ◌<◌, ◌≤◌, ◌⊎◌, Bool, true, false, suc, List, [], ◌∷◌, ◌++◌, length, drop, map, Option, Some, None, Result, Ok, Err, cond, refl, sym, ap, ◌∙◌, subst, arith, inl, inr}
+use Rattle.std.proofs.Common.{◌≡◌, ℕ, ◌^◌, ◌<◌, ◌≤◌, ◌⊎◌, Bool, true, false, suc, List, [], ◌∷◌, ◌++◌, length, map, Option, Some, None, Result, Ok, Err, cond, refl, sym, ap, ◌∙◌, subst, arith, inl, inr}
 use Rattle.std.specs.Prelude.{codes, nat_eq, nat_le, nat_lt, ◌&&◌}
 use Rattle.std.specs.List.{join_with_byte}
 use Rattle.std.specs.Option.{option_and_then}
@@ -11,15 +11,15 @@ use Rattle.std.proofs.lemmas.Option.{same_Some}
 use Rattle.std.proofs.lemmas.Slice.Eq.{bytes_eq-Decides}
 use Rattle.protocol_lang.specs.Numbers.{number_of}
 use Rattle.room_spec.specs.Names.{is_name}
-use Rattle.room_spec.specs.Rooms.{RoomSpec, is_value}
+use Rattle.room_spec.specs.Rooms.{RoomSpec, has_own, is_reduction, is_value}
 use Rattle.room_spec.specs.declared.version.Version.{Version}
 use Rattle.room_spec.specs.declared.version.Version.TheVariants.{One, Two}
 use Rattle.room_spec.specs.Texts.{fields_of}
-use Rattle.room_spec.specs.Blocks.{value_after, version_of, named, numbers_of, inputs_of, are_inputs, in_range, up_to, fitting, is_protocol, fuse_in, of_simulator, has_fuse, unrepeated, line_behind, said, said_next}
-use Rattle.room_spec.specs.Grammar.{version_text, crash_line, head_lines, line_of, IsHead, IsNumberLine, IsInputsLine, BeginsWith, IsCrashOrProtocol, HasForm, IsOutOfRange, HasCrashOf, IsReason}
+use Rattle.room_spec.specs.Blocks.{Head, IsHeadWithin, value_after, version_of, reduction_of, named, numbers_of, inputs_of, are_values, up_to_values, up_to, fitting, is_protocol, fuse_in, of_simulator, has_fuse, unrepeated, line_behind, said, said_next}
+use Rattle.room_spec.specs.Grammar.{version_text, crash_line, lines_before_text, lines_from_rounds, most_inputs, line_of, IsHead, IsNumberLine, IsInputsLine, BeginsWith, IsCrashOrProtocol, HasForm, IsOutOfRange, HasCrashOf, IsReason}
 use Rattle.room_spec.specs.declared.fault.SpecFault.{SpecFault}
 use Rattle.room_spec.specs.declared.fault.SpecFault.TheVariants.{BadLine, BadName, Inputs, TooWide, CrashLine, Repeated}
-use Rattle.room_spec.proofs.Heads.{bind_ok, guard_ok, ok_is, value_found, value_again, in_range_found, decimal_found, test_found, inputs_spelled, inputs_in_range, inputs_are_values}
+use Rattle.room_spec.proofs.Heads.{bind_ok, guard_ok, ok_is, value_found, value_again, in_range_found, decimal_found, test_found, inputs_spelled, values_in_range, are_all_values}
 use Rattle.room_spec.proofs.Fuses.{TellsFuse, of_simulator_ok, no_fuses, tells_fuse, crash_line_found, crash_line_again}
 use Rattle.room_spec.proofs.Locality.{err_cases, version_refusal, number_judge, fitting_judge}
 use Rattle.room_spec.proofs.Standing.{plain, Stands, Starts, stands_for}
@@ -30,24 +30,28 @@ pub guard_err : {A : Type 0} (b : Bool) (x : A) (refusal fault : SpecFault) → 
 guard_err true x refusal fault e = absurd cc
 guard_err false x refusal fault e = (refl, cc)
 
--- a room that has these; what its lines leave open is the least
-abbrev pub made : Version → List ℕ → List ℕ → ℕ → ℕ → ℕ → Option ℕ → List (ℕ × ℕ) → RoomSpec
-made version name inputs simulators rounds turns task fuses = record { version = version; name = name; inputs = inputs; simulators = simulators; rounds = rounds; turns = turns; task = task; fuses = fuses; protocol = plain }
+-- a room whose first four lines say this; what its other lines leave open is the least
+abbrev pub made : Head → ℕ → ℕ → Option ℕ → List (ℕ × ℕ) → RoomSpec
+made head rounds turns task fuses = record { version = head.version; name = head.name; inputs = head.inputs; own = head.own; simulators = head.simulators; rounds = rounds; turns = turns; task = task; fuses = fuses; protocol = plain }
 
-pub head_made : (version : Version) (name inputs : List ℕ) (simulators rounds turns : ℕ) → is_name name ≡ true → are_inputs inputs ≡ true → (1 ≤ simulators) × (simulators ≤ 8) → (1 ≤ rounds) × (rounds ≤ 15) → (1 ≤ turns) × (turns ≤ 65535) → IsHead (made version name inputs simulators rounds turns None [])
-head_made version name inputs simulators rounds turns is are few some long = record {
-  name = is;
-  inputs = are;
-  simulators = few;
+pub head_made : (head : Head) (rounds turns : ℕ) → IsHeadWithin head → (1 ≤ rounds) × (rounds ≤ 15) → (1 ≤ turns) × (turns ≤ 65535) → IsHead (made head rounds turns None [])
+head_made head rounds turns within some long = record {
+  name = within.name;
+  inputs = within.inputs;
+  simulators = within.simulators;
   rounds = some;
   turns = long;
   task = tt;
-  fuses = no_fuses simulators;
+  fuses = no_fuses head.simulators;
   values = refl;
+  own = within.own;
 }
 
-pub starts_of : (lines : List (List ℕ)) (room : RoomSpec) (more : List (List ℕ)) → IsHead room → length lines < 5 → head_lines room ≡ lines ++ more → 1 ≤ length more → Starts lines room
-starts_of lines room more head few parts unfinished = record { head = head; fits = λ five. absurd (omega (arith, few, five)); more = more; parts = parts; unfinished = unfinished }
+pub least_made : (head : Head) → IsHeadWithin head → IsHead (made head 1 1 None [])
+least_made head within = head_made head 1 1 within (omega arith, omega arith) (omega arith, omega arith)
+
+pub starts_of : (reduction : Bool) (lines : List (List ℕ)) (room : RoomSpec) (more : List (List ℕ)) → IsHead room → is_reduction room ≡ reduction → length lines < 5 → lines_before_text reduction room ≡ lines ++ more → 1 ≤ length more → Starts reduction lines room
+starts_of reduction lines room more head kind few parts unfinished = record { head = head; kind = kind; fits = λ five. absurd (omega (arith, few, five)); more = more; parts = parts; unfinished = unfinished }
 
 abbrev pub room_line : List ℕ → List ℕ
 room_line name = codes "room " ++ name
@@ -58,46 +62,103 @@ inputs_of_room inputs = join_with_byte 32 (codes "inputs" ∷ map decimal inputs
 abbrev pub number_of_room : List ℕ → ℕ → List ℕ
 number_of_room word number = word ++ decimal number
 
+-- the first, third and fourth line of a block of the kind
+abbrev pub first_text : Bool → Version → List ℕ
+first_text false version = version_text version
+first_text true version = codes "reduction 1"
+
+abbrev pub third_text : Bool → List ℕ → List ℕ → List ℕ
+third_text false inputs own = inputs_of_room inputs
+third_text true inputs own = inputs_of_room own
+
+abbrev pub fourth_text : Bool → ℕ → ℕ → List ℕ
+fourth_text false n m = number_of_room (codes "simulators ") m
+fourth_text true n m = number_of_room (codes "processes ") n
+
+-- these are the lines before that of the rounds
+pub front_is : (reduction : Bool) (room : RoomSpec) → lines_before_text reduction room ≡ first_text reduction room.version ∷ room_line room.name ∷ third_text reduction room.inputs room.own ∷ fourth_text reduction (length room.inputs) room.simulators ∷ lines_from_rounds room
+front_is false room = refl
+front_is true room = refl
+
 -- the lines before the one that is named
-abbrev pub to_inputs : Version → List ℕ → List (List ℕ)
-to_inputs version name = version_text version ∷ room_line name ∷ []
+abbrev pub to_name : Bool → Version → List (List ℕ)
+to_name reduction version = first_text reduction version ∷ []
 
-abbrev pub to_simulators : Version → List ℕ → List ℕ → List (List ℕ)
-to_simulators version name inputs = version_text version ∷ room_line name ∷ inputs_of_room inputs ∷ []
+abbrev pub to_inputs : Bool → Version → List ℕ → List (List ℕ)
+to_inputs reduction version name = first_text reduction version ∷ room_line name ∷ []
 
-abbrev pub to_rounds : Version → List ℕ → List ℕ → ℕ → List (List ℕ)
-to_rounds version name inputs simulators = version_text version ∷ room_line name ∷ inputs_of_room inputs ∷ number_of_room (codes "simulators ") simulators ∷ []
+abbrev pub to_count : Bool → Version → List ℕ → List ℕ → List ℕ → List (List ℕ)
+to_count reduction version name inputs own = first_text reduction version ∷ room_line name ∷ third_text reduction inputs own ∷ []
 
-abbrev pub to_turns : Version → List ℕ → List ℕ → ℕ → ℕ → List (List ℕ)
-to_turns version name inputs simulators rounds = version_text version ∷ room_line name ∷ inputs_of_room inputs ∷ number_of_room (codes "simulators ") simulators ∷ number_of_room (codes "rounds ") rounds ∷ []
+abbrev pub to_rounds : Bool → Head → List (List ℕ)
+to_rounds reduction head = first_text reduction head.version ∷ room_line head.name ∷ third_text reduction head.inputs head.own ∷ fourth_text reduction (length head.inputs) head.simulators ∷ []
 
-abbrev least : Version → RoomSpec
-least version = made version (codes "a") (0 ∷ []) 1 1 1 None []
+abbrev pub to_turns : Bool → Head → ℕ → List (List ℕ)
+to_turns reduction head rounds = first_text reduction head.version ∷ room_line head.name ∷ third_text reduction head.inputs head.own ∷ fourth_text reduction (length head.inputs) head.simulators ∷ number_of_room (codes "rounds ") rounds ∷ []
 
-head_least : (version : Version) → IsHead (least version)
-head_least version = head_made version (codes "a") (0 ∷ []) 1 1 1 refl refl (omega arith, omega arith) (omega arith, omega arith) (omega arith, omega arith)
+-- a room of the kind with this name, and otherwise the least
+abbrev pub IsVersionOf : Bool → Version → Type 0
+IsVersionOf false version = Unit {0}
+IsVersionOf true version = version ≡ Two
+
+abbrev least_own : Bool → List ℕ
+least_own false = []
+least_own true = 0 ∷ []
+
+abbrev pub named_head : Bool → Version → List ℕ → Head
+named_head reduction version name = record { version = version; name = name; inputs = 0 ∷ []; own = least_own reduction; simulators = 1 }
+
+named_within : (reduction : Bool) (version : Version) (name : List ℕ) → IsVersionOf reduction version → is_name name ≡ true → IsHeadWithin (named_head reduction version name)
+named_within false version name has is = record { name = is; inputs = refl; own = tt; simulators = (omega arith, omega arith) }
+named_within true version name has is = record { name = is; inputs = refl; own = (has, refl, refl, refl); simulators = (omega arith, omega arith) }
+
+least_kind : (reduction : Bool) → has_own (least_own reduction) ≡ reduction
+least_kind false = refl
+least_kind true = refl
+
+abbrev pub named_room : Bool → Version → List ℕ → RoomSpec
+named_room reduction version name = made (named_head reduction version name) 1 1 None []
+
+abbrev pub least : Bool → Version → RoomSpec
+least reduction version = named_room reduction version (codes "a")
+
+named_made : (reduction : Bool) (version : Version) (name : List ℕ) → IsVersionOf reduction version → is_name name ≡ true → IsHead (named_room reduction version name)
+named_made reduction version name has is = least_made (named_head reduction version name) (named_within reduction version name has is)
+
+starts_none : (reduction : Bool) (version : Version) → IsVersionOf reduction version → Starts reduction [] (least reduction version)
+starts_none reduction version has = starts_of reduction [] (least reduction version) (lines_before_text reduction (least reduction version)) (named_made reduction version (codes "a") has refl) (least_kind reduction) (omega arith) refl (let same = ap length (front_is reduction (least reduction version)) in omega (arith, same))
 
 version_form : (bytes : List ℕ) (fault : SpecFault) → version_of bytes ≡ Err fault → (bytes ≡ codes "bgsim 1") ⊎ (bytes ≡ codes "bgsim 2") → ⊥
 version_form bytes fault e (inl is) = absurd (let never : Ok One ≡ Err fault = sym (ap version_of is) ∙ e in cc)
 version_form bytes fault e (inr is) = absurd (let never : Ok Two ≡ Err fault = sym (ap version_of is) ∙ e in cc)
 
-pub version_refused : (bytes : List ℕ) (fault : SpecFault) → version_of bytes ≡ Err fault → Stands fault [] bytes
-version_refused bytes fault e = stands_for [] (least One) bytes (BadLine 1) fault (starts_of [] (least One) (head_lines (least One)) (head_least One) (omega arith) refl (omega arith)) (version_refusal bytes fault e) refl (version_form bytes fault e)
+pub version_refused : (bytes : List ℕ) (fault : SpecFault) → version_of bytes ≡ Err fault → Stands false fault [] bytes
+version_refused bytes fault e = stands_for false [] (least false One) bytes (BadLine 1) fault (starts_none false One tt) (version_refusal bytes fault e) refl (version_form bytes fault e)
+
+pub reduction_refused : (bytes : List ℕ) (fault : SpecFault) → reduction_of bytes ≡ Err fault → Stands true fault [] bytes
+reduction_refused bytes fault e =
+    let refused = guard_err (bytes_eq bytes (codes "reduction 1")) Two (BadLine 1) fault e in
+    stands_for true [] (least true Two) bytes (BadLine 1) fault (starts_none true Two refl) refused.1 refl (λ is. false≢true (sym refused.0 ∙ (bytes_eq-Decides bytes (codes "reduction 1")).1 is))
 
 -- what begins with the word has something behind it
 pub begun_value : (word bytes : List ℕ) → value_after word bytes ≡ None → BeginsWith word bytes → ⊥
 begun_value word bytes none form = absurd (let never : None ≡ Some form.0 = sym none ∙ value_again word bytes form.0 form.1 in cc)
 
-starts_version : (version : Version) → Starts (version_text version ∷ []) (least version)
-starts_version version = starts_of (version_text version ∷ []) (least version) (drop 1 (head_lines (least version))) (head_least version) (omega arith) refl (omega arith)
+starts_version : (reduction : Bool) (version : Version) → IsVersionOf reduction version → Starts reduction (to_name reduction version) (least reduction version)
+starts_version reduction version has = starts_of reduction (to_name reduction version) (least reduction version) _ (named_made reduction version (codes "a") has refl) (least_kind reduction) (omega arith) (front_is reduction (least reduction version)) (omega arith)
 
-pub name_refused : (version : Version) (bytes : List ℕ) (value : Option (List ℕ)) (fault : SpecFault) → value_after (codes "room ") bytes ≡ value → named value ≡ Err fault → Stands fault (version_text version ∷ []) bytes
-name_refused version bytes None fault is e =
+-- by the form of the name's line
+form_name : (reduction : Bool) (first bytes : List ℕ) → HasForm reduction (first ∷ []) bytes → BeginsWith (codes "room ") bytes
+form_name false first bytes form = form
+form_name true first bytes form = form
+
+pub name_refused : (reduction : Bool) (version : Version) → IsVersionOf reduction version → (bytes : List ℕ) (value : Option (List ℕ)) (fault : SpecFault) → value_after (codes "room ") bytes ≡ value → named value ≡ Err fault → Stands reduction fault (to_name reduction version) bytes
+name_refused reduction version has bytes None fault is e =
     let same : BadLine 2 ≡ fault = cc in
-    stands_for (version_text version ∷ []) (least version) bytes (BadLine 2) fault (starts_version version) same refl (begun_value (codes "room ") bytes is)
-name_refused version bytes (Some name) fault is e =
+    stands_for reduction (to_name reduction version) (least reduction version) bytes (BadLine 2) fault (starts_version reduction version has) same refl (λ form. begun_value (codes "room ") bytes is (form_name reduction (first_text reduction version) bytes form))
+name_refused reduction version has bytes (Some name) fault is e =
     let refused = guard_err (is_name name) name BadName fault e in
-    stands_for (version_text version ∷ []) (least version) bytes BadName fault (starts_version version) refused.1 refl (name, value_found (codes "room ") bytes name is, refused.0)
+    stands_for reduction (to_name reduction version) (least reduction version) bytes BadName fault (starts_version reduction version has) refused.1 refl (name, value_found (codes "room ") bytes name is, refused.0)
 
 inputs_in : (fields : List (List ℕ)) (values : List ℕ) → inputs_of fields ≡ Some values → (numerals : List (List ℕ)) × (fields ≡ codes "inputs" ∷ numerals) × (numbers_of numerals ≡ Some values)
 inputs_in [] values e = absurd cc
@@ -105,24 +166,29 @@ inputs_in (word ∷ fields) values e =
     let parts = test_found (bytes_eq word (codes "inputs")) (numbers_of fields) values e in
     (fields, ap (λ (w : List ℕ). w ∷ fields) ((bytes_eq-Decides word (codes "inputs")).0 parts.0), parts.1)
 
-starts_named : (version : Version) (name : List ℕ) → is_name name ≡ true → Starts (to_inputs version name) (made version name (0 ∷ []) 1 1 1 None [])
-starts_named version name is = starts_of (to_inputs version name) (made version name (0 ∷ []) 1 1 1 None []) (drop 2 (head_lines (made version name (0 ∷ []) 1 1 1 None []))) (head_made version name (0 ∷ []) 1 1 1 is refl (omega arith, omega arith) (omega arith, omega arith) (omega arith, omega arith)) (omega arith) refl (omega arith)
+starts_named : (reduction : Bool) (version : Version) (name : List ℕ) → IsVersionOf reduction version → is_name name ≡ true → Starts reduction (to_inputs reduction version name) (named_room reduction version name)
+starts_named reduction version name has is = starts_of reduction (to_inputs reduction version name) (named_room reduction version name) _ (named_made reduction version name has is) (least_kind reduction) (omega arith) (front_is reduction (named_room reduction version name)) (omega arith)
 
 inputs_form : (bytes : List ℕ) → inputs_of (fields_of bytes) ≡ None → (numbers : List ℕ) → IsInputsLine bytes numbers → ⊥
 inputs_form bytes none numbers form = absurd (let never : None ≡ Some numbers = sym none ∙ ap inputs_of form.1 ∙ form.2 in cc)
 
-pub inputs_refused : (version : Version) (name : List ℕ) → is_name name ≡ true → (bytes : List ℕ) (values : Option (List ℕ)) (fault : SpecFault) → inputs_of (fields_of bytes) ≡ values → in_range values ≡ Err fault → Stands fault (to_inputs version name) bytes
-inputs_refused version name is_one bytes None fault is e =
-    let same : BadLine 3 ≡ fault = cc in
-    stands_for (to_inputs version name) (made version name (0 ∷ []) 1 1 1 None []) bytes (BadLine 3) fault (starts_named version name is_one) same refl (λ form. inputs_form bytes is form.0 form.1)
-inputs_refused version name is_one bytes (Some values) fault is e =
-    let refused = guard_err (are_inputs values) values Inputs fault e in
-    stands_for (to_inputs version name) (made version name (0 ∷ []) 1 1 1 None []) bytes Inputs fault (starts_named version name is_one) refused.1 refl (values, inputs_in (fields_of bytes) values is, refused.0)
+form_inputs : (reduction : Bool) (first second bytes : List ℕ) → HasForm reduction (first ∷ second ∷ []) bytes → (numbers : List ℕ) × IsInputsLine bytes numbers
+form_inputs false first second bytes form = form
+form_inputs true first second bytes form = form
 
-pub inputs_said : (bytes values : List ℕ) → in_range (inputs_of (fields_of bytes)) ≡ Ok values → (bytes ≡ inputs_of_room values) × (are_inputs values ≡ true)
-inputs_said bytes values is =
-    let says = inputs_in_range (inputs_of (fields_of bytes)) values is in
-    let pieces = inputs_spelled (fields_of bytes) values says.0 (inputs_are_values values says.1) in
+pub inputs_refused : (reduction : Bool) (version : Version) (name : List ℕ) → IsVersionOf reduction version → is_name name ≡ true → (bytes : List ℕ) (values : Option (List ℕ)) (fault : SpecFault) → inputs_of (fields_of bytes) ≡ values → up_to_values (most_inputs reduction) values ≡ Err fault → Stands reduction fault (to_inputs reduction version name) bytes
+inputs_refused reduction version name has is_one bytes None fault is e =
+    let same : BadLine 3 ≡ fault = cc in
+    stands_for reduction (to_inputs reduction version name) (named_room reduction version name) bytes (BadLine 3) fault (starts_named reduction version name has is_one) same refl
+    (λ form. let numbers = form_inputs reduction (first_text reduction version) (room_line name) bytes form in inputs_form bytes is numbers.0 numbers.1)
+inputs_refused reduction version name has is_one bytes (Some values) fault is e =
+    let refused = guard_err (are_values (most_inputs reduction) values) values Inputs fault e in
+    stands_for reduction (to_inputs reduction version name) (named_room reduction version name) bytes Inputs fault (starts_named reduction version name has is_one) refused.1 refl (values, inputs_in (fields_of bytes) values is, refused.0)
+
+pub inputs_said : (most : ℕ) (bytes values : List ℕ) → up_to_values most (inputs_of (fields_of bytes)) ≡ Ok values → (bytes ≡ inputs_of_room values) × (are_values most values ≡ true)
+inputs_said most bytes values is =
+    let says = values_in_range most (inputs_of (fields_of bytes)) values is in
+    let pieces = inputs_spelled (fields_of bytes) values says.0 (are_all_values most values says.1) in
     (sym (join_with_byte-slice_split 32 bytes) ∙ ap (join_with_byte 32) pieces, says.1)
 
 -- ---- the lines of a word and a number
@@ -156,11 +222,11 @@ number_refused line word most refusal bytes (Some number) fault is e =
     let numeral = numeral_in (value_after word bytes) number is in
     inr (refused.1, (number, (numeral.0, value_found word bytes numeral.0 numeral.1, numeral.2), outside most number refused.0))
 
-pub number_stands : (so_far : List (List ℕ)) (room : RoomSpec) (line : ℕ) (word : List ℕ) (most : ℕ) (refusal : SpecFault) (bytes : List ℕ) (fault : SpecFault) → Starts so_far room → line ≡ suc (length so_far) → line_of refusal ≡ Some line → ((((number : ℕ) × IsNumberLine word bytes number) → ⊥) → HasForm so_far bytes → ⊥) → (IsOutOfRange word most bytes → IsReason refusal room so_far bytes) → number_judge line word most refusal bytes ≡ Err fault → Stands fault so_far bytes
-number_stands so_far room line word most refusal bytes fault starts at own form range e =
+pub number_stands : (reduction : Bool) (so_far : List (List ℕ)) (room : RoomSpec) (line : ℕ) (word : List ℕ) (most : ℕ) (refusal : SpecFault) (bytes : List ℕ) (fault : SpecFault) → Starts reduction so_far room → line ≡ suc (length so_far) → line_of refusal ≡ Some line → (HasForm reduction so_far bytes → (number : ℕ) × IsNumberLine word bytes number) → (IsOutOfRange word most bytes → IsReason reduction refusal room so_far bytes) → number_judge line word most refusal bytes ≡ Err fault → Stands reduction fault so_far bytes
+number_stands reduction so_far room line word most refusal bytes fault starts at own form range e =
     elim (number_refused line word most refusal bytes (option_and_then number_of (value_after word bytes)) fault refl e) [
-      | inl (same, never) ↦ stands_for so_far room bytes (BadLine line) fault starts same (ap Some at) (form never)
-      | inr (same, out) ↦ stands_for so_far room bytes refusal fault starts same (own ∙ ap Some at) (range out)
+      | inl (same, never) ↦ stands_for reduction so_far room bytes (BadLine line) fault starts same (ap Some at) (λ has. never (form has))
+      | inr (same, out) ↦ stands_for reduction so_far room bytes refusal fault starts same (own ∙ ap Some at) (range out)
     ]
 
 pub number_said : (line : ℕ) (word : List ℕ) (most : ℕ) (refusal : SpecFault) (bytes : List ℕ) (number : ℕ) → most < 2 ^ 64 → number_judge line word most refusal bytes ≡ Ok number → (bytes ≡ number_of_room word number) × (1 ≤ number) × (number ≤ most)

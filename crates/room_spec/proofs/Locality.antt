@@ -1,6 +1,6 @@
 -- A fault rests on the lines up to its own, and a protocol's fault on the protocol's text.
 use Rattle.std.proofs.Common.{◌≡◌, ◌≢◌, ℕ, All, ◌+◌, ◌-◌, ◌*◌, ◌≤◌, ◌⊎◌, min, Bool, true, false, zero, suc, List, [], ◌∷◌, ◌++◌, length, take, drop, Option, Some, None, Result, Ok, Err, cond, refl, sym, ap, ◌∙◌, subst, arith, inl, inr}
-use Rattle.std.specs.Prelude.{codes, nat_le, nat_lt, ◌&&◌, IfSome, IfErr}
+use Rattle.std.specs.Prelude.{codes, nat_le, nat_lt, ◌&&◌, IfSome, IfErr, replicate, slice_index}
 use Rattle.std.specs.List.{position_or_len}
 use Rattle.std.specs.Option.{option_and_then}
 use Rattle.std.specs.Str.{bytes_eq}
@@ -18,14 +18,14 @@ use Rattle.room_spec.specs.declared.version.Version.TheVariants.{One, Two}
 use Rattle.room_spec.specs.Names.{is_name}
 use Rattle.room_spec.specs.Texts.{is_line_end, first_line, later_lines, lines_of, fields_of, pieces_of}
 use Rattle.protocol_lang.specs.Results.{◌>>=◌}
-use Rattle.room_spec.specs.Blocks.{is_end, body_len, value_after, version_of, named, inputs_of, are_inputs, in_range, up_to, fitting, agreed, task_of, task_words, task_in, line_behind_task, is_protocol, fuse_in, of_simulator, has_fuse, unrepeated, line_behind, said, said_next, onward, fuses_from, protocol_of, room_in, room_before, block_in}
-use Rattle.room_spec.specs.Grammar.{is_line, text_of, behind_protocol, are_before_end, EndsAt, line_of, IsLocal, IsOfText}
+use Rattle.room_spec.specs.Blocks.{is_end, body_len, value_after, version_of, named, inputs_of, are_values, up_to_values, in_range, reduction_of, up_to, fitting, agreed, task_of, task_words, task_in, line_behind_task, is_protocol, fuse_in, of_simulator, has_fuse, unrepeated, line_behind, said, said_next, onward, fuses_from, protocol_of, room_in, reduction_in, before_end}
+use Rattle.room_spec.specs.Grammar.{is_line, text_of, behind_protocol, are_before_end, EndsAt, line_of, IsLocalTo, IsOfText}
 use Rattle.room_spec.specs.declared.fault.SpecFault.{SpecFault}
-use Rattle.room_spec.specs.declared.fault.SpecFault.TheVariants.{Truncated, BadLine, BadName, BadProtocol, Inputs, Simulators, Rounds, Turns, TooWide, CrashLine, Repeated, TaskLine}
+use Rattle.room_spec.specs.declared.fault.SpecFault.TheVariants.{Truncated, BadLine, BadName, BadProtocol, Inputs, Simulators, Rounds, Turns, TooWide, CrashLine, Repeated, TaskLine, Processes}
 use Rattle.room_spec.proofs.Lines.{are_lines, first_line-text_of, later_lines-text_of}
 use Rattle.room_spec.proofs.Ends.{with_line_end, front_to, lines_to_end, end_at, before_line, block_ends, block_nowhere, are_lines-before_end}
 use Rattle.room_spec.proofs.Fuses.{tells_protocol}
-use Rattle.room_spec.proofs.Readings.{from_text, from_fuses, from_task, from_turns, from_rounds, from_simulators, from_inputs, from_name}
+use Rattle.room_spec.proofs.Readings.{from_text, from_fuses, from_task, from_turns, from_rounds, from_simulators, from_inputs, from_name, from_processes, from_own, from_reduction_name}
 
 -- ---- steps that may fail
 
@@ -168,9 +168,9 @@ name_fault : (value : Option (List ℕ)) (fault : SpecFault) → named value ≡
 name_fault None fault e = let own : BadLine 2 ≡ fault = cc in ap line_of (sym own)
 name_fault (Some name) fault e = test_fault 2 (is_name name) name BadName fault refl e
 
-inputs_fault : (values : Option (List ℕ)) (fault : SpecFault) → in_range values ≡ Err fault → line_of fault ≡ Some 3
-inputs_fault None fault e = let own : BadLine 3 ≡ fault = cc in ap line_of (sym own)
-inputs_fault (Some values) fault e = test_fault 3 (are_inputs values) values Inputs fault refl e
+inputs_fault : (most : ℕ) (values : Option (List ℕ)) (fault : SpecFault) → up_to_values most values ≡ Err fault → line_of fault ≡ Some 3
+inputs_fault most None fault e = let own : BadLine 3 ≡ fault = cc in ap line_of (sym own)
+inputs_fault most (Some values) fault e = test_fault 3 (are_values most values) values Inputs fault refl e
 
 number_fault : (most : ℕ) (said : SpecFault) (line : ℕ) (found : Option ℕ) (fault : SpecFault) → line_of said ≡ Some line → up_to most said line found ≡ Err fault → line_of fault ≡ Some line
 number_fault most said line None fault of e = let own : BadLine line ≡ fault = cc in ap line_of (sym own)
@@ -211,8 +211,8 @@ pub protocol_fault : (outcome : Result Protocol ParseFault) (next : Protocol →
 protocol_fault (Ok protocol) next fault never e = absurd (never protocol e)
 protocol_fault (Err own) next fault never e = (own, refl, cc)
 
-local_text : (line : ℕ) (version : Version) (name inputs : List ℕ) (simulators rounds turns : ℕ) (task : Option ℕ) (fuses : List (ℕ × ℕ)) → IsLocalFrom line (λ lines. lines) (from_text version name inputs simulators rounds turns task fuses)
-local_text line version name inputs simulators rounds turns task fuses = record {
+local_text : (line : ℕ) (version : Version) (name inputs own : List ℕ) (simulators rounds turns : ℕ) (task : Option ℕ) (fuses : List (ℕ × ℕ)) → IsLocalFrom line (λ lines. lines) (from_text version name inputs own simulators rounds turns task fuses)
+local_text line version name inputs own simulators rounds turns task fuses = record {
   own = λ text fault n e h. absurd (let is = protocol_fault (reading text) _ fault (λ protocol same. absurd cc) e in let none : None ≡ Some n = ap line_of is.2 ∙ h in cc);
   protocol = λ lines fault all e. (let is = protocol_fault (reading (text_of lines)) _ (BadProtocol fault) (λ protocol same. absurd cc) e in let same : is.0 ≡ fault = cc in is.1 ∙ ap Err same);
   ends = λ text e. (let is = protocol_fault (reading text) _ Truncated (λ protocol same. absurd cc) e in let same : BadProtocol is.0 ≡ Truncated = is.2 in absurd cc);
@@ -284,10 +284,10 @@ local_fuses_from (suc most) from m fuses next text =
     (judged_local (line_behind from fuses) behind_protocol (said_next from m fuses) (on_told most from m fuses next) (λ bytes. told_fault from m fuses bytes (value_after (codes "crash ") bytes))
     (local_told most from m fuses next (text (suc (line_behind from fuses)) fuses) (λ fuse. subst (λ (line : ℕ). IsLocalFrom line behind_protocol (on_from most from m (fuses ++ fuse ∷ []) next)) (longer_line from fuses fuse) (local_fuses_from most from m (fuses ++ fuse ∷ []) next text))))
 
-local_fuses : (version : Version) (name inputs : List ℕ) (simulators rounds turns : ℕ) (task : Option ℕ) → IsLocalFrom (line_behind_task task) behind_protocol (from_fuses version name inputs simulators rounds turns task)
-local_fuses version name inputs simulators rounds turns task =
-    subst (λ (line : ℕ). IsLocalFrom line behind_protocol (from_fuses version name inputs simulators rounds turns task)) (let none : line_behind (line_behind_task task) [] ≡ line_behind_task task = omega arith in none)
-    (local_fuses_from (suc simulators) (line_behind_task task) simulators [] (λ fuses. from_text version name inputs simulators rounds turns task fuses) (λ line all. local_text line version name inputs simulators rounds turns task all))
+local_fuses : (version : Version) (name inputs own : List ℕ) (simulators rounds turns : ℕ) (task : Option ℕ) → IsLocalFrom (line_behind_task task) behind_protocol (from_fuses version name inputs own simulators rounds turns task)
+local_fuses version name inputs own simulators rounds turns task =
+    subst (λ (line : ℕ). IsLocalFrom line behind_protocol (from_fuses version name inputs own simulators rounds turns task)) (let none : line_behind (line_behind_task task) [] ≡ line_behind_task task = omega arith in none)
+    (local_fuses_from (suc simulators) (line_behind_task task) simulators [] (λ fuses. from_text version name inputs own simulators rounds turns task fuses) (λ line all. local_text line version name inputs own simulators rounds turns task all))
 
 -- ---- the line behind the turns: a task, or what the first line behind the task would tell
 
@@ -298,9 +298,9 @@ seventh_by m line (Some words) = task_of words >>= λ most. Ok (inl most)
 abbrev pub seventh : Version → ℕ → List ℕ → Result (ℕ ⊎ Option (ℕ × ℕ)) SpecFault
 seventh version m line = seventh_by m line (task_words version line)
 
-abbrev pub on_seventh : Version → List ℕ → List ℕ → ℕ → ℕ → ℕ → ℕ ⊎ Option (ℕ × ℕ) → List ℕ → Result RoomSpec SpecFault
-on_seventh version name inputs simulators rounds turns (inl most) text = from_fuses version name inputs simulators rounds turns (Some most) text
-on_seventh version name inputs simulators rounds turns (inr told) text = on_told simulators 7 simulators [] (λ fuses. from_text version name inputs simulators rounds turns None fuses) told text
+abbrev pub on_seventh : Version → List ℕ → List ℕ → List ℕ → ℕ → ℕ → ℕ → ℕ ⊎ Option (ℕ × ℕ) → List ℕ → Result RoomSpec SpecFault
+on_seventh version name inputs own simulators rounds turns (inl most) text = from_fuses version name inputs own simulators rounds turns (Some most) text
+on_seventh version name inputs own simulators rounds turns (inr told) text = on_told simulators 7 simulators [] (λ fuses. from_text version name inputs own simulators rounds turns None fuses) told text
 
 regroup_told : (told : Result (Option (ℕ × ℕ)) SpecFault) (next : ℕ ⊎ Option (ℕ × ℕ) → Result RoomSpec SpecFault) → (told >>= λ x. next (inr x)) ≡ ((told >>= λ x. Ok (inr x)) >>= next)
 regroup_told (Ok x) next = refl
@@ -310,15 +310,15 @@ regroup_agreed : (most : Result ℕ SpecFault) (rest : List ℕ) (next : Option 
 regroup_agreed (Ok x) rest next on same = same x
 regroup_agreed (Err fault) rest next on same = refl
 
-regroup_seventh_by : (version : Version) (name inputs : List ℕ) (simulators rounds turns : ℕ) (text : List ℕ) (words : Option (List ℕ)) → (task_in text words >>= λ task. from_fuses version name inputs simulators rounds turns task.0 task.1) ≡ (seventh_by simulators (first_line text) words >>= λ x. on_seventh version name inputs simulators rounds turns x (later_lines text))
-regroup_seventh_by version name inputs simulators rounds turns text None =
-    regroup_fuses simulators 7 simulators [] (λ fuses. from_text version name inputs simulators rounds turns None fuses) text
-    ∙ regroup_told (said_next 7 simulators [] (first_line text)) (λ x. on_seventh version name inputs simulators rounds turns x (later_lines text))
-regroup_seventh_by version name inputs simulators rounds turns text (Some words) =
-    regroup_agreed (task_of words) (later_lines text) (λ task rest. from_fuses version name inputs simulators rounds turns task rest) (λ x rest. on_seventh version name inputs simulators rounds turns x rest) (λ x. refl)
+regroup_seventh_by : (version : Version) (name inputs own : List ℕ) (simulators rounds turns : ℕ) (text : List ℕ) (words : Option (List ℕ)) → (task_in text words >>= λ task. from_fuses version name inputs own simulators rounds turns task.0 task.1) ≡ (seventh_by simulators (first_line text) words >>= λ x. on_seventh version name inputs own simulators rounds turns x (later_lines text))
+regroup_seventh_by version name inputs own simulators rounds turns text None =
+    regroup_fuses simulators 7 simulators [] (λ fuses. from_text version name inputs own simulators rounds turns None fuses) text
+    ∙ regroup_told (said_next 7 simulators [] (first_line text)) (λ x. on_seventh version name inputs own simulators rounds turns x (later_lines text))
+regroup_seventh_by version name inputs own simulators rounds turns text (Some words) =
+    regroup_agreed (task_of words) (later_lines text) (λ task rest. from_fuses version name inputs own simulators rounds turns task rest) (λ x rest. on_seventh version name inputs own simulators rounds turns x rest) (λ x. refl)
 
-pub regroup_seventh : (version : Version) (name inputs : List ℕ) (simulators rounds turns : ℕ) (text : List ℕ) → from_task version name inputs simulators rounds turns text ≡ by_line (seventh version simulators) (on_seventh version name inputs simulators rounds turns) text
-regroup_seventh version name inputs simulators rounds turns text = regroup_seventh_by version name inputs simulators rounds turns text (task_words version (first_line text))
+pub regroup_seventh : (version : Version) (name inputs own : List ℕ) (simulators rounds turns : ℕ) (text : List ℕ) → from_task version name inputs own simulators rounds turns text ≡ by_line (seventh version simulators) (on_seventh version name inputs own simulators rounds turns) text
+regroup_seventh version name inputs own simulators rounds turns text = regroup_seventh_by version name inputs own simulators rounds turns text (task_words version (first_line text))
 
 agreed_fault : (found : Option ℕ) (fault : SpecFault) → agreed found ≡ Err fault → line_of fault ≡ Some 7
 agreed_fault None fault e = let own : TaskLine 7 ≡ fault = cc in ap line_of (sym own)
@@ -364,41 +364,41 @@ task_is_other version m most line is =
       | inr other ↦ other
     ]
 
-later_seventh : (version : Version) (name inputs : List ℕ) (simulators rounds turns : ℕ) (x : ℕ ⊎ Option (ℕ × ℕ)) → Later 7 behind_protocol (seventh version simulators) (on_seventh version name inputs simulators rounds turns) x
-later_seventh version name inputs simulators rounds turns (inl most) = (behind_protocol, local_fuses version name inputs simulators rounds turns (Some most), λ bytes lines is. behind_other bytes lines (task_is_other version simulators most bytes is), refl)
-later_seventh version name inputs simulators rounds turns (inr None) = (λ lines. lines, local_text 8 version name inputs simulators rounds turns None [], λ bytes lines is. behind_itself bytes lines (protocol_is_itself 7 simulators [] bytes (seventh_told simulators bytes (task_words version bytes) None is)), refl)
-later_seventh version name inputs simulators rounds turns (inr (Some fuse)) = (
+later_seventh : (version : Version) (name inputs own : List ℕ) (simulators rounds turns : ℕ) (x : ℕ ⊎ Option (ℕ × ℕ)) → Later 7 behind_protocol (seventh version simulators) (on_seventh version name inputs own simulators rounds turns) x
+later_seventh version name inputs own simulators rounds turns (inl most) = (behind_protocol, local_fuses version name inputs own simulators rounds turns (Some most), λ bytes lines is. behind_other bytes lines (task_is_other version simulators most bytes is), refl)
+later_seventh version name inputs own simulators rounds turns (inr None) = (λ lines. lines, local_text 8 version name inputs own simulators rounds turns None [], λ bytes lines is. behind_itself bytes lines (protocol_is_itself 7 simulators [] bytes (seventh_told simulators bytes (task_words version bytes) None is)), refl)
+later_seventh version name inputs own simulators rounds turns (inr (Some fuse)) = (
   behind_protocol,
-  local_fuses_from simulators 7 simulators (fuse ∷ []) (λ fuses. from_text version name inputs simulators rounds turns None fuses) (λ line all. local_text line version name inputs simulators rounds turns None all),
+  local_fuses_from simulators 7 simulators (fuse ∷ []) (λ fuses. from_text version name inputs own simulators rounds turns None fuses) (λ line all. local_text line version name inputs own simulators rounds turns None all),
   λ bytes lines is. behind_other bytes lines (crash_is_other 7 simulators [] bytes fuse (seventh_told simulators bytes (task_words version bytes) (Some fuse) is)),
   refl,
 )
 
-local_task : (version : Version) (name inputs : List ℕ) (simulators rounds turns : ℕ) → IsLocalFrom 7 behind_protocol (from_task version name inputs simulators rounds turns)
-local_task version name inputs simulators rounds turns =
-    same_reader 7 behind_protocol (from_task version name inputs simulators rounds turns) _ (regroup_seventh version name inputs simulators rounds turns)
-    (judged_local 7 behind_protocol (seventh version simulators) (on_seventh version name inputs simulators rounds turns) (λ bytes. seventh_fault simulators bytes (task_words version bytes)) (later_seventh version name inputs simulators rounds turns))
+local_task : (version : Version) (name inputs own : List ℕ) (simulators rounds turns : ℕ) → IsLocalFrom 7 behind_protocol (from_task version name inputs own simulators rounds turns)
+local_task version name inputs own simulators rounds turns =
+    same_reader 7 behind_protocol (from_task version name inputs own simulators rounds turns) _ (regroup_seventh version name inputs own simulators rounds turns)
+    (judged_local 7 behind_protocol (seventh version simulators) (on_seventh version name inputs own simulators rounds turns) (λ bytes. seventh_fault simulators bytes (task_words version bytes)) (later_seventh version name inputs own simulators rounds turns))
 
-local_turns : (version : Version) (name inputs : List ℕ) (simulators rounds : ℕ) → IsLocalFrom 6 behind_protocol (from_turns version name inputs simulators rounds)
-local_turns version name inputs simulators rounds =
-    same_reader 6 behind_protocol (from_turns version name inputs simulators rounds) _ (λ text. regroup (number_judge 6 (codes "turns ") 65535 Turns (first_line text)) (later_lines text) (λ turns. from_task version name inputs simulators rounds turns))
-    (line_local 6 (BadLine 6) (number_judge 6 (codes "turns ") 65535 Turns) (λ turns. from_task version name inputs simulators rounds turns) refl (λ bytes fault. number_fault 65535 Turns 6 (option_and_then number_of (value_after (codes "turns ") bytes)) fault refl) (λ turns. local_task version name inputs simulators rounds turns))
+local_turns : (version : Version) (name inputs own : List ℕ) (simulators rounds : ℕ) → IsLocalFrom 6 behind_protocol (from_turns version name inputs own simulators rounds)
+local_turns version name inputs own simulators rounds =
+    same_reader 6 behind_protocol (from_turns version name inputs own simulators rounds) _ (λ text. regroup (number_judge 6 (codes "turns ") 65535 Turns (first_line text)) (later_lines text) (λ turns. from_task version name inputs own simulators rounds turns))
+    (line_local 6 (BadLine 6) (number_judge 6 (codes "turns ") 65535 Turns) (λ turns. from_task version name inputs own simulators rounds turns) refl (λ bytes fault. number_fault 65535 Turns 6 (option_and_then number_of (value_after (codes "turns ") bytes)) fault refl) (λ turns. local_task version name inputs own simulators rounds turns))
 
-local_rounds : (version : Version) (name inputs : List ℕ) (simulators : ℕ) → IsLocalFrom 5 behind_protocol (from_rounds version name inputs simulators)
-local_rounds version name inputs simulators =
-    same_reader 5 behind_protocol (from_rounds version name inputs simulators) _ (λ text. regroup_fitting (most_bits version) (λ n. simulators * length inputs * bits_of n) (number_judge 5 (codes "rounds ") 15 Rounds (first_line text)) (later_lines text) (λ rounds. from_turns version name inputs simulators rounds))
-    (line_local 5 (BadLine 5) (λ bytes. fitting_judge (most_bits version) (λ n. simulators * length inputs * bits_of n) (number_judge 5 (codes "rounds ") 15 Rounds bytes)) (λ rounds. from_turns version name inputs simulators rounds) refl
-    (λ bytes fault. fitting_fault (most_bits version) (λ n. simulators * length inputs * bits_of n) (number_judge 5 (codes "rounds ") 15 Rounds bytes) fault (λ own. number_fault 15 Rounds 5 (option_and_then number_of (value_after (codes "rounds ") bytes)) own refl)) (λ rounds. local_turns version name inputs simulators rounds))
+local_rounds : (version : Version) (name inputs own : List ℕ) (simulators : ℕ) → IsLocalFrom 5 behind_protocol (from_rounds version name inputs own simulators)
+local_rounds version name inputs own simulators =
+    same_reader 5 behind_protocol (from_rounds version name inputs own simulators) _ (λ text. regroup_fitting (most_bits version) (λ n. simulators * length inputs * bits_of n) (number_judge 5 (codes "rounds ") 15 Rounds (first_line text)) (later_lines text) (λ rounds. from_turns version name inputs own simulators rounds))
+    (line_local 5 (BadLine 5) (λ bytes. fitting_judge (most_bits version) (λ n. simulators * length inputs * bits_of n) (number_judge 5 (codes "rounds ") 15 Rounds bytes)) (λ rounds. from_turns version name inputs own simulators rounds) refl
+    (λ bytes fault. fitting_fault (most_bits version) (λ n. simulators * length inputs * bits_of n) (number_judge 5 (codes "rounds ") 15 Rounds bytes) fault (λ own. number_fault 15 Rounds 5 (option_and_then number_of (value_after (codes "rounds ") bytes)) own refl)) (λ rounds. local_turns version name inputs own simulators rounds))
 
 local_simulators : (version : Version) (name inputs : List ℕ) → IsLocalFrom 4 behind_protocol (from_simulators version name inputs)
 local_simulators version name inputs =
-    same_reader 4 behind_protocol (from_simulators version name inputs) _ (λ text. regroup (number_judge 4 (codes "simulators ") 8 Simulators (first_line text)) (later_lines text) (λ simulators. from_rounds version name inputs simulators))
-    (line_local 4 (BadLine 4) (number_judge 4 (codes "simulators ") 8 Simulators) (λ simulators. from_rounds version name inputs simulators) refl (λ bytes fault. number_fault 8 Simulators 4 (option_and_then number_of (value_after (codes "simulators ") bytes)) fault refl) (λ simulators. local_rounds version name inputs simulators))
+    same_reader 4 behind_protocol (from_simulators version name inputs) _ (λ text. regroup (number_judge 4 (codes "simulators ") 8 Simulators (first_line text)) (later_lines text) (λ simulators. from_rounds version name inputs [] simulators))
+    (line_local 4 (BadLine 4) (number_judge 4 (codes "simulators ") 8 Simulators) (λ simulators. from_rounds version name inputs [] simulators) refl (λ bytes fault. number_fault 8 Simulators 4 (option_and_then number_of (value_after (codes "simulators ") bytes)) fault refl) (λ simulators. local_rounds version name inputs [] simulators))
 
 local_inputs : (version : Version) (name : List ℕ) → IsLocalFrom 3 behind_protocol (from_inputs version name)
 local_inputs version name =
     same_reader 3 behind_protocol (from_inputs version name) _ (λ text. regroup (in_range (inputs_of (fields_of (first_line text)))) (later_lines text) (λ inputs. from_simulators version name inputs))
-    (line_local 3 (BadLine 3) (λ bytes. in_range (inputs_of (fields_of bytes))) (λ inputs. from_simulators version name inputs) refl (λ bytes. inputs_fault (inputs_of (fields_of bytes))) (λ inputs. local_simulators version name inputs))
+    (line_local 3 (BadLine 3) (λ bytes. in_range (inputs_of (fields_of bytes))) (λ inputs. from_simulators version name inputs) refl (λ bytes. inputs_fault 16 (inputs_of (fields_of bytes))) (λ inputs. local_simulators version name inputs))
 
 local_name : (version : Version) → IsLocalFrom 2 behind_protocol (from_name version)
 local_name version =
@@ -410,6 +410,32 @@ unfolding room_in
 local_room =
     same_reader 1 behind_protocol room_in _ (λ text. regroup (version_of (first_line text)) (later_lines text) from_name)
     (line_local 1 (BadLine 1) version_of from_name refl version_fault local_name)
+
+-- ---- a reduction
+
+local_processes : (version : Version) (name own : List ℕ) → IsLocalFrom 4 behind_protocol (from_processes version name own)
+local_processes version name own =
+    same_reader 4 behind_protocol (from_processes version name own) _ (λ text. regroup (number_judge 4 (codes "processes ") 16 Processes (first_line text)) (later_lines text) (λ processes. from_rounds version name (replicate processes (slice_index own 0)) own (length own)))
+    (line_local 4 (BadLine 4) (number_judge 4 (codes "processes ") 16 Processes) (λ processes. from_rounds version name (replicate processes (slice_index own 0)) own (length own)) refl (λ bytes fault. number_fault 16 Processes 4 (option_and_then number_of (value_after (codes "processes ") bytes)) fault refl) (λ processes. local_rounds version name (replicate processes (slice_index own 0)) own (length own)))
+
+local_own : (version : Version) (name : List ℕ) → IsLocalFrom 3 behind_protocol (from_own version name)
+local_own version name =
+    same_reader 3 behind_protocol (from_own version name) _ (λ text. regroup (up_to_values 8 (inputs_of (fields_of (first_line text)))) (later_lines text) (λ own. from_processes version name own))
+    (line_local 3 (BadLine 3) (λ bytes. up_to_values 8 (inputs_of (fields_of bytes))) (λ own. from_processes version name own) refl (λ bytes. inputs_fault 8 (inputs_of (fields_of bytes))) (λ own. local_processes version name own))
+
+local_reduction_name : (version : Version) → IsLocalFrom 2 behind_protocol (from_reduction_name version)
+local_reduction_name version =
+    same_reader 2 behind_protocol (from_reduction_name version) _ (λ text. regroup (named (value_after (codes "room ") (first_line text))) (later_lines text) (λ name. from_own version name))
+    (line_local 2 (BadLine 2) (λ bytes. named (value_after (codes "room ") bytes)) (λ name. from_own version name) refl (λ bytes. name_fault (value_after (codes "room ") bytes)) (λ name. local_own version name))
+
+reduction_fault : (line : List ℕ) (fault : SpecFault) → reduction_of line ≡ Err fault → line_of fault ≡ Some 1
+reduction_fault line fault e = test_fault 1 (bytes_eq line (codes "reduction 1")) Two (BadLine 1) fault refl e
+
+pub local_reduction : IsLocalFrom 1 behind_protocol reduction_in
+unfolding reduction_in
+local_reduction =
+    same_reader 1 behind_protocol reduction_in _ (λ text. regroup (reduction_of (first_line text)) (later_lines text) from_reduction_name)
+    (line_local 1 (BadLine 1) reduction_of from_reduction_name refl reduction_fault local_reduction_name)
 
 -- ---- whole blocks
 
@@ -432,22 +458,22 @@ ended text len at =
     }
 
 -- a fault that is not that of the whole block
-pub record FaultAt (text : List ℕ) (fault : SpecFault) : Type 0 where
+pub record FaultAt (reader : List ℕ → Result RoomSpec SpecFault) (text : List ℕ) (fault : SpecFault) : Type 0 where
   pub len : ℕ
   pub at : EndsAt text len
-  pub read : room_in (text_of at.lines) ≡ Err fault
+  pub read : reader (text_of at.lines) ≡ Err fault
 
-fault_before : (text : List ℕ) (found : Option ℕ) (fault : SpecFault) → room_before text found ≡ Err fault → ((fault ≡ Truncated) × (found ≡ None)) ⊎ ((body : ℕ) × (found ≡ Some body) × (room_in (take body text) ≡ Err fault))
-fault_before text None fault e = inl (cc, refl)
-fault_before text (Some body) fault e =
-    elim (err_cases (room_in (take body text)) (λ room. Ok (room, min (body + 4) (length text))) fault e) [
+fault_before : (reader : List ℕ → Result RoomSpec SpecFault) (text : List ℕ) (found : Option ℕ) (fault : SpecFault) → before_end reader text found ≡ Err fault → ((fault ≡ Truncated) × (found ≡ None)) ⊎ ((body : ℕ) × (found ≡ Some body) × (reader (take body text) ≡ Err fault))
+fault_before reader text None fault e = inl (cc, refl)
+fault_before reader text (Some body) fault e =
+    elim (err_cases (reader (take body text)) (λ room. Ok (room, min (body + 4) (length text))) fault e) [
       | inl here ↦ inr (body, refl, here)
       | inr (room, read, there) ↦ absurd cc
     ]
 
-pub fault_at : (text : List ℕ) (fault : SpecFault) → block_in text ≡ Err fault → ((fault ≡ Truncated) × (body_len text ≡ None)) ⊎ FaultAt text fault
-fault_at text fault e =
-    elim (fault_before text (body_len text) fault e) [
+pub fault_at : (reader : List ℕ → Result RoomSpec SpecFault) (text : List ℕ) (fault : SpecFault) → before_end reader text (body_len text) ≡ Err fault → ((fault ≡ Truncated) × (body_len text ≡ None)) ⊎ FaultAt reader text fault
+fault_at reader text fault e =
+    elim (fault_before reader text (body_len text) fault e) [
       | inl whole ↦ inl whole
       | inr (body, found, read) ↦
           let at = block_ends text body (sym found) in
@@ -456,7 +482,7 @@ fault_at text fault e =
           inr (record {
             len = min (body + 4) (length text);
             at = at;
-            read = ap room_in (sym end.bytes ∙ ap (λ (n : ℕ). take n text) body_is) ∙ read;
+            read = ap reader (sym end.bytes ∙ ap (λ (n : ℕ). take n text) body_is) ∙ read;
           })
     ]
 
@@ -491,41 +517,48 @@ if_some : {A : Type 0} (found : Option A) (P : A → Type 0) → ((x : A) → fo
 if_some None P from = tt
 if_some (Some x) P from = from x refl
 
-pub same_fault : (text : List ℕ) (fault : SpecFault) (line : ℕ) → line_of fault ≡ Some line → FaultAt text fault → (other : List ℕ) (len : ℕ) → EndsAt other len → take line (lines_of other) ≡ take line (lines_of text) → block_in other ≡ Err fault
-same_fault text fault line is found other len at same =
+-- a reader of the lines before the line `end`
+abbrev pub IsLocalReader : (List ℕ → Result RoomSpec SpecFault) → Type 0
+IsLocalReader reader = IsLocalFrom 1 behind_protocol reader
+
+abbrev pub block_of : (List ℕ → Result RoomSpec SpecFault) → List ℕ → Result (RoomSpec × ℕ) SpecFault
+block_of reader text = before_end reader text (body_len text)
+
+pub same_fault : (reader : List ℕ → Result RoomSpec SpecFault) → IsLocalReader reader → (text : List ℕ) (fault : SpecFault) (line : ℕ) → line_of fault ≡ Some line → FaultAt reader text fault → (other : List ℕ) (len : ℕ) → EndsAt other len → take line (lines_of other) ≡ take line (lines_of text) → block_of reader other ≡ Err fault
+same_fault reader local_reader text fault line is found other len at same =
     let end = ended text found.len found.at in
     let end_other = ended other len at in
     let agree : Agree line (text_of found.at.lines) (text_of at.lines) = agree_lines line found.at.lines at.lines end.pieces end_other.pieces found.at.no_end at.no_end (ap (take line) (sym end_other.cut) ∙ same ∙ ap (take line) end.cut) in
-    let local = local_room.own (text_of found.at.lines) fault line found.read is in
+    let local = local_reader.own (text_of found.at.lines) fault line found.read is in
     let count : line ≡ suc line - 1 = omega arith in
-    let read : room_in (text_of at.lines) ≡ Err fault = local.1 (text_of at.lines) (subst (λ (n : ℕ). Agree n (text_of found.at.lines) (text_of at.lines)) count agree) in
+    let read : reader (text_of at.lines) ≡ Err fault = local.1 (text_of at.lines) (subst (λ (n : ℕ). Agree n (text_of found.at.lines) (text_of at.lines)) count agree) in
     rw (end_other.body, end_other.bytes, read) refl
 
-fault_local : (text : List ℕ) (fault : SpecFault) → block_in text ≡ Err fault → IsLocal text fault
-fault_local text fault e =
+fault_local : (reader : List ℕ → Result RoomSpec SpecFault) → IsLocalReader reader → (text : List ℕ) (fault : SpecFault) → block_of reader text ≡ Err fault → IsLocalTo (block_of reader) text fault
+fault_local reader local_reader text fault e =
     if_some (line_of fault) _ (λ line is other len at same.
-    elim (fault_at text fault e) [
+    elim (fault_at reader text fault e) [
       | inl whole ↦ absurd (let none : None ≡ Some line = sym (ap line_of whole.0) ∙ is in cc)
-      | inr found ↦ same_fault text fault line is found other len at same
+      | inr found ↦ same_fault reader local_reader text fault line is found other len at same
     ])
 
-pub block_local : (text : List ℕ) (outcome : Result (RoomSpec × ℕ) SpecFault) → outcome ≡ block_in text → IfErr outcome (λ fault. IsLocal text fault)
-block_local text (Ok read) e = tt
-block_local text (Err fault) e = fault_local text fault (sym e)
+pub block_local : (reader : List ℕ → Result RoomSpec SpecFault) → IsLocalReader reader → (text : List ℕ) (outcome : Result (RoomSpec × ℕ) SpecFault) → outcome ≡ block_of reader text → IfErr outcome (λ fault. IsLocalTo (block_of reader) text fault)
+block_local reader local_reader text (Ok read) e = tt
+block_local reader local_reader text (Err fault) e = fault_local reader local_reader text fault (sym e)
 
-whole_fault : (text : List ℕ) → ((Truncated ≡ Truncated) × (body_len text ≡ None)) ⊎ FaultAt text Truncated → All (λ line. line ≢ codes "end") (lines_of text)
-whole_fault text (inl whole) = block_nowhere text (sym whole.1)
-whole_fault text (inr found) = absurd (local_room.ends (text_of found.at.lines) found.read)
+whole_fault : (reader : List ℕ → Result RoomSpec SpecFault) → IsLocalReader reader → (text : List ℕ) → ((Truncated ≡ Truncated) × (body_len text ≡ None)) ⊎ FaultAt reader text Truncated → All (λ line. line ≢ codes "end") (lines_of text)
+whole_fault reader local_reader text (inl whole) = block_nowhere text (sym whole.1)
+whole_fault reader local_reader text (inr found) = absurd (local_reader.ends (text_of found.at.lines) found.read)
 
-protocol_at : (text : List ℕ) (fault : ParseFault) → ((BadProtocol fault ≡ Truncated) × (body_len text ≡ None)) ⊎ FaultAt text (BadProtocol fault) → IsOfText text (BadProtocol fault)
-protocol_at text fault (inl whole) = absurd (let same = whole.0 in cc)
-protocol_at text fault (inr found) = (found.len, found.at, local_room.protocol found.at.lines fault (are_lines-before_end found.at.lines found.at.no_end) found.read)
+protocol_at : (reader : List ℕ → Result RoomSpec SpecFault) → IsLocalReader reader → (text : List ℕ) (fault : ParseFault) → ((BadProtocol fault ≡ Truncated) × (body_len text ≡ None)) ⊎ FaultAt reader text (BadProtocol fault) → IsOfText text (BadProtocol fault)
+protocol_at reader local_reader text fault (inl whole) = absurd (let same = whole.0 in cc)
+protocol_at reader local_reader text fault (inr found) = (found.len, found.at, local_reader.protocol found.at.lines fault (are_lines-before_end found.at.lines found.at.no_end) found.read)
 
-fault_of_text : (text : List ℕ) (fault : SpecFault) → block_in text ≡ Err fault → IsOfText text fault
-fault_of_text text Truncated e = whole_fault text (fault_at text Truncated e)
-fault_of_text text (BadProtocol fault) e = protocol_at text fault (fault_at text (BadProtocol fault) e)
-fault_of_text text fault e = tt
+fault_of_text : (reader : List ℕ → Result RoomSpec SpecFault) → IsLocalReader reader → (text : List ℕ) (fault : SpecFault) → block_of reader text ≡ Err fault → IsOfText text fault
+fault_of_text reader local_reader text Truncated e = whole_fault reader local_reader text (fault_at reader text Truncated e)
+fault_of_text reader local_reader text (BadProtocol fault) e = protocol_at reader local_reader text fault (fault_at reader text (BadProtocol fault) e)
+fault_of_text reader local_reader text fault e = tt
 
-pub block_of_text : (text : List ℕ) (outcome : Result (RoomSpec × ℕ) SpecFault) → outcome ≡ block_in text → IfErr outcome (λ fault. IsOfText text fault)
-block_of_text text (Ok read) e = tt
-block_of_text text (Err fault) e = fault_of_text text fault (sym e)
+pub block_of_text : (reader : List ℕ → Result RoomSpec SpecFault) → IsLocalReader reader → (text : List ℕ) (outcome : Result (RoomSpec × ℕ) SpecFault) → outcome ≡ block_of reader text → IfErr outcome (λ fault. IsOfText text fault)
+block_of_text reader local_reader text (Ok read) e = tt
+block_of_text reader local_reader text (Err fault) e = fault_of_text reader local_reader text fault (sym e)

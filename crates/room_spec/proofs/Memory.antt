@@ -12,14 +12,15 @@ use Rattle.protocol_lang.specs.declared.fault.ParseFault.TheVariants.{OutOfMemor
 use Rattle.protocol_lang.proofs.CallerLemmas.{small_if_read}
 use Rattle.room_spec.specs.Rooms.{RoomSpec}
 use Rattle.protocol_lang.specs.Results.{◌>>=◌}
-use Rattle.room_spec.specs.Blocks.{body_len, protocol_of, room_in, room_before, block_in, GivesOrMemory, MayLackAt, OrMemory, UnlessMemory, out_of_memory}
-use Rattle.room_spec.specs.Grammar.{IsBlock, IsLocal, IsOfText, IsFirstFault}
+use Rattle.room_spec.specs.Blocks.{body_len, protocol_of, before_end, room_in, reduction_in, reduction_text_in, reduction_block_in, room_before, block_in, GivesOrMemory, MayLackAt, MayLackAtBy, OrMemory, UnlessMemory, out_of_memory}
+use Rattle.room_spec.specs.Grammar.{IsBlock, IsReductionBlock, IsLocal, IsReductionLocal, IsOfText, IsFirstFault, IsReductionFirstFault}
 use Rattle.room_spec.specs.declared.fault.SpecFault.{SpecFault}
 use Rattle.room_spec.specs.declared.fault.SpecFault.TheVariants.{BadProtocol}
 use Rattle.room_spec.proofs.Heads.{bind_ok}
 use Rattle.room_spec.proofs.Readings.{block_found, block_again, protocol_read}
-use Rattle.room_spec.proofs.Locality.{block_local, block_of_text}
-use Rattle.room_spec.proofs.FirstFaults.{block_first}
+use Rattle.room_spec.proofs.Reductions.{reduction_block_again, reduction_block_found}
+use Rattle.room_spec.proofs.Locality.{local_reduction, local_room, block_local, block_of_text}
+use Rattle.room_spec.proofs.FirstFaults.{block_first, reduction_first}
 
 abbrev read_as : RoomSpec → ℕ → Result (RoomSpec × ℕ) SpecFault
 read_as room len = Ok (room, len)
@@ -50,18 +51,54 @@ only_or text result (inr e) room len block = inr e
 
 pub local_or : (text : List ℕ) (result : Result (RoomSpec × ℕ) SpecFault) → OrMemory (MayLackAt text) result (block_in text) → IfErr result (λ fault. UnlessMemory fault (IsLocal text fault))
 local_or text (Ok read) e = tt
-local_or text (Err fault) (inl e) = unless fault (IsLocal text fault) (block_local text (Err fault) e)
+local_or text (Err fault) (inl e) = unless fault (IsLocal text fault) (block_local room_in local_room text (Err fault) e)
 local_or text (Err fault) (inr e) = let same : fault ≡ out_of_memory = (let is = e.0 in cc) in refused fault (IsLocal text fault) same
 
 pub of_text_or : (text : List ℕ) (result : Result (RoomSpec × ℕ) SpecFault) → OrMemory (MayLackAt text) result (block_in text) → IfErr result (λ fault. UnlessMemory fault (IsOfText text fault))
 of_text_or text (Ok read) e = tt
-of_text_or text (Err fault) (inl e) = unless fault (IsOfText text fault) (block_of_text text (Err fault) e)
+of_text_or text (Err fault) (inl e) = unless fault (IsOfText text fault) (block_of_text room_in local_room text (Err fault) e)
 of_text_or text (Err fault) (inr e) = let same : fault ≡ out_of_memory = (let is = e.0 in cc) in refused fault (IsOfText text fault) same
 
 pub first_or : (text : List ℕ) (result : Result (RoomSpec × ℕ) SpecFault) → OrMemory (MayLackAt text) result (block_in text) → IfErr result (λ fault. UnlessMemory fault (IsFirstFault text fault))
 first_or text (Ok read) e = tt
 first_or text (Err fault) (inl e) = unless fault (IsFirstFault text fault) (block_first text (Err fault) e)
 first_or text (Err fault) (inr e) = let same : fault ≡ out_of_memory = (let is = e.0 in cc) in refused fault (IsFirstFault text fault) same
+
+-- ---- the same of a reduction
+
+reduction_before : (text : List ℕ) (body : Option ℕ) (read : RoomSpec × ℕ) → body ≡ body_len text → before_end reduction_in text body ≡ Ok read → IsReductionBlock text read.0 read.1
+reduction_before text None read is e = absurd cc
+reduction_before text (Some body) read is e =
+    let room = bind_ok (reduction_in (take body text)) (λ room. Ok (room, min (body + 4) (length text))) read e in
+    let same : (room.0, min (body + 4) (length text)) ≡ read = cc in
+    subst (λ (r : RoomSpec × ℕ). IsReductionBlock text r.0 r.1) same (reduction_block_found text body room.0 is (sym room.1))
+
+abbrev MayLack : List ℕ → Type 0
+MayLack text = MayLackAtBy reduction_text_in text
+
+pub reduction_found_or : (text : List ℕ) (result : Result (RoomSpec × ℕ) SpecFault) → OrMemory (MayLack text) result (reduction_block_in text) → IfOk result (λ read. IsReductionBlock text read.0 read.1)
+reduction_found_or text (Ok read) (inl e) = reduction_before text (body_len text) read refl (sym e)
+reduction_found_or text (Ok read) (inr e) = absurd (let never = e.0 in cc)
+reduction_found_or text (Err fault) e = tt
+
+pub reduction_only_or : (text : List ℕ) (result : Result (RoomSpec × ℕ) SpecFault) → OrMemory (MayLack text) result (reduction_block_in text) → (room : RoomSpec) (len : ℕ) → IsReductionBlock text room len → OrMemory (MayLack text) result (read_as room len)
+reduction_only_or text result (inl e) room len block = inl (e ∙ reduction_block_again text room len block)
+reduction_only_or text result (inr e) room len block = inr e
+
+pub reduction_local_or : (text : List ℕ) (result : Result (RoomSpec × ℕ) SpecFault) → OrMemory (MayLack text) result (reduction_block_in text) → IfErr result (λ fault. UnlessMemory fault (IsReductionLocal text fault))
+reduction_local_or text (Ok read) e = tt
+reduction_local_or text (Err fault) (inl e) = unless fault (IsReductionLocal text fault) (block_local reduction_in local_reduction text (Err fault) e)
+reduction_local_or text (Err fault) (inr e) = let same : fault ≡ out_of_memory = (let is = e.0 in cc) in refused fault (IsReductionLocal text fault) same
+
+pub reduction_of_text_or : (text : List ℕ) (result : Result (RoomSpec × ℕ) SpecFault) → OrMemory (MayLack text) result (reduction_block_in text) → IfErr result (λ fault. UnlessMemory fault (IsOfText text fault))
+reduction_of_text_or text (Ok read) e = tt
+reduction_of_text_or text (Err fault) (inl e) = unless fault (IsOfText text fault) (block_of_text reduction_in local_reduction text (Err fault) e)
+reduction_of_text_or text (Err fault) (inr e) = let same : fault ≡ out_of_memory = (let is = e.0 in cc) in refused fault (IsOfText text fault) same
+
+pub reduction_first_or : (text : List ℕ) (result : Result (RoomSpec × ℕ) SpecFault) → OrMemory (MayLack text) result (reduction_block_in text) → IfErr result (λ fault. UnlessMemory fault (IsReductionFirstFault text fault))
+reduction_first_or text (Ok read) e = tt
+reduction_first_or text (Err fault) (inl e) = unless fault (IsReductionFirstFault text fault) (reduction_first text (Err fault) e)
+reduction_first_or text (Err fault) (inr e) = let same : fault ≡ out_of_memory = (let is = e.0 in cc) in refused fault (IsReductionFirstFault text fault) same
 
 -- a protocol that was read has small numerals
 pub kept_small : {X : Type 0} (view : X → Protocol) (text : List ℕ) (kept : Result X SpecFault) (x : X) → GivesOrMemory (MayLackMemory text) view kept (protocol_of (reading text)) → kept ≡ Ok x → HasSmallNumerals (view x)

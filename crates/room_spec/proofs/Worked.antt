@@ -1,5 +1,5 @@
 -- The definitions on blocks that were worked by hand.
-use Rattle.std.proofs.Common.{◌≡◌, ℕ, List, [], ◌∷◌, ◌++◌, map, take, false, Some, None, Ok, Err, refl, arith}
+use Rattle.std.proofs.Common.{◌≡◌, ℕ, List, [], ◌∷◌, ◌++◌, map, take, false, Some, None, Ok, Err, refl, arith, true, inl, ap, get_or}
 use Rattle.std.specs.Prelude.{codes}
 use Rattle.std.specs.Fmt.{digits}
 use Rattle.std.proofs.lemmas.Bool.{ltb-true}
@@ -10,10 +10,10 @@ use Rattle.protocol_lang.specs.Trees.{Named}
 use Rattle.protocol_lang.specs.Thresholds.{waits_for_all_but}
 use Rattle.protocol_lang.specs.declared.fault.ParseFault.TheVariants.{Unexpected}
 use Rattle.room_spec.specs.Names.{is_name}
-use Rattle.room_spec.specs.Rooms.{RoomSpec}
-use Rattle.room_spec.specs.Blocks.{body_len, block_len, fuses_from, room_in, block_in}
-use Rattle.room_spec.specs.Grammar.{line_end, block_text, IsHead, Begin, IsReason}
-use Rattle.room_spec.specs.declared.fault.SpecFault.TheVariants.{Truncated, BadLine, BadName, BadProtocol, Inputs, TooWide, CrashLine, Repeated, TaskLine}
+use Rattle.room_spec.specs.Rooms.{RoomSpec, with_inputs}
+use Rattle.room_spec.specs.Blocks.{body_len, block_len, fuses_from, room_in, block_in, reduction_in, reduction_block_in}
+use Rattle.room_spec.specs.Grammar.{line_end, block_text, reduction_text, IsHead, Begin, IsReason}
+use Rattle.room_spec.specs.declared.fault.SpecFault.TheVariants.{Truncated, BadLine, BadName, BadProtocol, Inputs, TooWide, CrashLine, Repeated, TaskLine, Processes}
 use Rattle.room_spec.specs.declared.version.Version.TheVariants.{One, Two}
 use Rattle.room_spec.proofs.Fuses.{no_fuses}
 
@@ -25,6 +25,7 @@ room_one = record {
   version = One;
   name = codes "one";
   inputs = 5 ∷ [];
+  own = [];
   simulators = 1;
   rounds = 1;
   turns = 10;
@@ -118,7 +119,7 @@ half_protocol = refl
 -- ---- version 2
 
 abbrev vote : RoomSpec
-vote = record { version = Two; name = codes "vote"; inputs = 5 ∷ 3 ∷ 9 ∷ []; simulators = 2; rounds = 3; turns = 100; task = Some 1; fuses = []; protocol = waits_for_all_but 1 }
+vote = record { version = Two; name = codes "vote"; inputs = 5 ∷ 3 ∷ 9 ∷ []; own = []; simulators = 2; rounds = 3; turns = 100; task = Some 1; fuses = []; protocol = waits_for_all_but 1 }
 
 vote_room : block_in (codes "bgsim 2\nroom vote\ninputs 5 3 9\nsimulators 2\nrounds 3\nturns 100\ntask agree 1\nprotocol\nfirst input;\nwhen count >= n - 1 decide min;\nelse write mine;\nend\n") ≡ Ok (vote, 151)
 unfolding body_len room_in fuses_from reading run one_token next_token
@@ -168,6 +169,7 @@ two_words : block_in (codes "bgsim 2\nroom big\ninputs 1 2 3 4 5 6 7 8 9\nsimula
     version = Two;
     name = codes "big";
     inputs = 1 ∷ 2 ∷ 3 ∷ 4 ∷ 5 ∷ 6 ∷ 7 ∷ 8 ∷ 9 ∷ [];
+    own = [];
     simulators = 2;
     rounds = 15;
     turns = 100;
@@ -194,22 +196,94 @@ abbrev sixteen_lines : List (List ℕ)
 sixteen_lines = codes "bgsim 1" ∷ codes "room one" ∷ codes "inputs 1 2 3 4 5 6 7 8 9 1 2 3 4 5 6 7" ∷ codes "simulators 8" ∷ []
 
 sixteen_head : IsHead sixteen
-sixteen_head = record { name = refl; inputs = refl; simulators = (omega arith, omega arith); rounds = (omega arith, omega arith); turns = (omega arith, omega arith); task = tt; fuses = no_fuses 8; values = refl }
+sixteen_head = record { name = refl; inputs = refl; simulators = (omega arith, omega arith); rounds = (omega arith, omega arith); turns = (omega arith, omega arith); task = tt; fuses = no_fuses 8; values = refl; own = tt }
 
-sixteen_begin : Begin sixteen_lines
+sixteen_begin : Begin false sixteen_lines
 unfolding digits
-sixteen_begin = record { room = sixteen; head = sixteen_head; fits = λ five. absurd (omega (arith, five)); more = codes "rounds 1" ∷ codes "turns 10" ∷ codes "protocol" ∷ []; parts = refl }
+sixteen_begin = record { room = sixteen; head = sixteen_head; kind = refl; fits = λ five. absurd (omega (arith, five)); more = codes "rounds 1" ∷ codes "turns 10" ∷ codes "protocol" ∷ []; parts = refl }
 
-sixteen_wide : IsReason TooWide sixteen sixteen_lines (codes "rounds 1")
+sixteen_wide : IsReason false TooWide sixteen sixteen_lines (codes "rounds 1")
 unfolding digits
 sixteen_wide = (1, refl, omega arith, omega arith, ltb-true 64 128 refl)
 
-end_has_no_form : IsReason (BadLine 5) sixteen sixteen_lines (codes "end")
+end_has_no_form : IsReason false (BadLine 5) sixteen sixteen_lines (codes "end")
 end_has_no_form = λ form. absurd (let never = form.1.1 in cc)
 
-second_of_one : IsReason (Repeated 8) (record room_one { fuses = (0, 3) ∷ [] }) (codes "bgsim 1" ∷ codes "room one" ∷ codes "inputs 5" ∷ codes "simulators 1" ∷ codes "rounds 1" ∷ codes "turns 10" ∷ codes "crash 0 after 3" ∷ []) (codes "crash 0 after 4")
+second_of_one : IsReason false (Repeated 8) (record room_one { fuses = (0, 3) ∷ [] }) (codes "bgsim 1" ∷ codes "room one" ∷ codes "inputs 5" ∷ codes "simulators 1" ∷ codes "rounds 1" ∷ codes "turns 10" ∷ codes "crash 0 after 3" ∷ []) (codes "crash 0 after 4")
 unfolding digits
 second_of_one = ((0, 4), (refl, omega arith, refl), (codes "bgsim 1" ∷ codes "room one" ∷ codes "inputs 5" ∷ codes "simulators 1" ∷ codes "rounds 1" ∷ codes "turns 10" ∷ [], 3, [], refl))
 
 no_name_with_a_line_end : is_name (codes "a\n") ≡ false
 no_name_with_a_line_end = refl
+
+-- ---- reductions
+
+abbrev shared : List ℕ
+shared = codes "reduction 1\nroom vote\ninputs 7 3\nprocesses 3\nrounds 2\nturns 100\ntask agree 2\nprotocol\nfirst input;\nwhen count >= n - 1 decide min;\nelse write mine;\nend\n"
+
+abbrev two_of_three : RoomSpec
+two_of_three = record { version = Two; name = codes "vote"; inputs = 7 ∷ 7 ∷ 7 ∷ []; own = 7 ∷ 3 ∷ []; simulators = 2; rounds = 2; turns = 100; task = Some 2; fuses = []; protocol = waits_for_all_but 1 }
+
+shared_room : reduction_block_in shared ≡ Ok (two_of_three, 152)
+unfolding body_len reduction_in fuses_from reading run one_token next_token
+shared_room = refl
+
+shared_text : reduction_text two_of_three (codes "first input;\nwhen count >= n - 1 decide min;\nelse write mine;\n") ++ line_end ≡ shared
+unfolding digits
+shared_text = refl
+
+-- the run of three processes whose inputs are the simulators'
+its_run : with_inputs two_of_three (7 ∷ 3 ∷ 7 ∷ []) ≡ record vote { inputs = 7 ∷ 3 ∷ 7 ∷ []; rounds = 2; task = Some 2 }
+its_run = refl
+
+-- neither kind of block is read as the other
+not_ordinary : block_in shared ≡ Err (BadLine 1)
+unfolding body_len room_in
+not_ordinary = refl
+
+not_a_reduction : reduction_block_in one ≡ Err (BadLine 1)
+unfolding body_len reduction_in
+not_a_reduction = refl
+
+no_process : reduction_block_in (codes "reduction 1\nroom one\ninputs 5\nprocesses 0\nend\n") ≡ Err Processes
+unfolding body_len reduction_in
+no_process = refl
+
+counts_simulators : reduction_block_in (codes "reduction 1\nroom one\ninputs 5\nsimulators 1\nend\n") ≡ Err (BadLine 4)
+unfolding body_len reduction_in
+counts_simulators = refl
+
+nine_simulators : reduction_block_in (codes "reduction 1\nroom one\ninputs 1 2 3 4 5 6 7 8 9\nend\n") ≡ Err Inputs
+unfolding body_len reduction_in
+nine_simulators = refl
+
+wide_reduction : reduction_block_in (codes "reduction 1\nroom one\ninputs 1 2 3 4 5 6 7 8\nprocesses 9\nrounds 15\nend\n") ≡ Err TooWide
+unfolding body_len reduction_in
+wide_reduction = refl
+
+-- a crash of a simulator that there isn't
+third_crash : reduction_block_in (codes "reduction 1\nroom one\ninputs 5 6\nprocesses 3\nrounds 1\nturns 10\ncrash 2 after 3\nprotocol\nend\n") ≡ Err (CrashLine 7)
+unfolding body_len reduction_in fuses_from
+third_crash = refl
+
+-- why a line of a reduction is the first fault
+abbrev three_lines : List (List ℕ)
+three_lines = codes "reduction 1" ∷ codes "room vote" ∷ codes "inputs 7 3" ∷ []
+
+shared_head : IsHead two_of_three
+shared_head = record { name = refl; inputs = refl; simulators = (omega arith, omega arith); rounds = (omega arith, omega arith); turns = (omega arith, omega arith); task = (omega arith, omega arith); fuses = no_fuses 2; values = refl; own = (refl, refl, refl, refl) }
+
+shared_begin : Begin true three_lines
+unfolding digits
+shared_begin = record { room = two_of_three; head = shared_head; kind = refl; fits = λ five. absurd (omega (arith, five)); more = codes "processes 3" ∷ codes "rounds 2" ∷ codes "turns 100" ∷ codes "task agree 2" ∷ codes "protocol" ∷ []; parts = refl }
+
+none_of_three : IsReason true Processes two_of_three three_lines (codes "processes 0")
+unfolding digits
+none_of_three = (0, (codes "0", refl, refl), inl (omega arith))
+
+simulators_have_no_form : IsReason true (BadLine 4) two_of_three three_lines (codes "simulators 2")
+simulators_have_no_form = λ form. absurd (let never : 115 ≡ 112 = ap (λ (line : List ℕ). get_or line 0 0) form.1.1 in omega (arith, never))
+
+nine_are_too_many : IsReason true Inputs two_of_three (codes "reduction 1" ∷ codes "room vote" ∷ []) (codes "inputs 1 2 3 4 5 6 7 8 9")
+unfolding digits
+nine_are_too_many = (1 ∷ 2 ∷ 3 ∷ 4 ∷ 5 ∷ 6 ∷ 7 ∷ 8 ∷ 9 ∷ [], (codes "1" ∷ codes "2" ∷ codes "3" ∷ codes "4" ∷ codes "5" ∷ codes "6" ∷ codes "7" ∷ codes "8" ∷ codes "9" ∷ [], refl, refl), refl)

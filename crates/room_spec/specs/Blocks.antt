@@ -1,5 +1,5 @@
 -- How a room block is read: line by line, up to the first fault.
-use Rattle.std.specs.Prelude.{◌≡◌, ◌⊎◌, ⊤, ℕ, zero, suc, ◌+◌, ◌*◌, Bool, ◌&&◌, min, List, [], ◌∷◌, ◌++◌, length, take, drop, Option, Some, None, Result, Ok, Err, nat_eq, nat_le, nat_lt, ◌==◌, if◌then◌else◌, codes}
+use Rattle.std.specs.Prelude.{◌≡◌, ◌≤◌, ◌⊎◌, ⊤, ℕ, true, zero, suc, ◌+◌, ◌*◌, Bool, ◌&&◌, min, List, [], ◌∷◌, ◌++◌, length, take, drop, replicate, slice_index, Option, Some, None, Result, Ok, Err, nat_eq, nat_le, nat_lt, ◌==◌, if◌then◌else◌, codes}
 use Rattle.std.specs.List.{list_all, list_any, position, starts_with, sum_by}
 use Rattle.std.specs.Option.{option_map, option_and_then}
 use Rattle.std.specs.Str.{bytes_eq}
@@ -10,10 +10,10 @@ use Rattle.protocol_lang.specs.declared.protocol.Protocol.{Protocol}
 use Rattle.protocol_lang.specs.declared.fault.ParseFault.{ParseFault}
 use Rattle.protocol_lang.specs.declared.fault.ParseFault.TheVariants.{OutOfMemory}
 use Rattle.room_spec.specs.Names.{is_name}
-use Rattle.room_spec.specs.Rooms.{RoomSpec, bits_of, is_value, most_bits}
+use Rattle.room_spec.specs.Rooms.{RoomSpec, AreOwn, bits_of, is_value, most_bits}
 use Rattle.room_spec.specs.Texts.{first_line, later_lines, lines_of, fields_of}
 use Rattle.room_spec.specs.declared.fault.SpecFault.{SpecFault}
-use Rattle.room_spec.specs.declared.fault.SpecFault.TheVariants.{Truncated, BadLine, BadName, BadProtocol, Inputs, Simulators, Rounds, Turns, TooWide, CrashLine, Repeated, TaskLine}
+use Rattle.room_spec.specs.declared.fault.SpecFault.TheVariants.{Truncated, BadLine, BadName, BadProtocol, Inputs, Simulators, Rounds, Turns, TooWide, CrashLine, Repeated, TaskLine, Processes}
 use Rattle.room_spec.specs.declared.version.Version.{Version}
 use Rattle.room_spec.specs.declared.version.Version.TheVariants.{One, Two}
 use Rattle.protocol_lang.specs.declared.meaning.TheConstants.{MAX_PROCESSES}
@@ -55,6 +55,13 @@ version_of line = if bytes_eq line (codes "bgsim 1") then Ok One else if bytes_e
 abbrev pub version_line : List ℕ → Result (Version × List ℕ) SpecFault
 version_line text = version_of (first_line text) >>= λ version. Ok (version, later_lines text)
 
+-- a reduction's other lines are those of version 2
+abbrev pub reduction_of : List ℕ → Result Version SpecFault
+reduction_of line = if bytes_eq line (codes "reduction 1") then Ok Two else Err (BadLine 1)
+
+abbrev pub reduction_line : List ℕ → Result (Version × List ℕ) SpecFault
+reduction_line text = reduction_of (first_line text) >>= λ version. Ok (version, later_lines text)
+
 abbrev pub named : Option (List ℕ) → Result (List ℕ) SpecFault
 named None = Err (BadLine 2)
 named (Some name) = if is_name name then Ok name else Err BadName
@@ -77,15 +84,26 @@ abbrev pub inputs_of : List (List ℕ) → Option (List ℕ)
 inputs_of [] = None
 inputs_of (word ∷ fields) = if bytes_eq word (codes "inputs") then numbers_of fields else None
 
+-- these are 1 to `most` values
+abbrev pub are_values : ℕ → List ℕ → Bool
+are_values most values = nat_le 1 (length values) && nat_le (length values) most && list_all is_value values
+
 abbrev pub are_inputs : List ℕ → Bool
-are_inputs values = nat_le 1 (length values) && nat_le (length values) MAX_PROCESSES && list_all is_value values
+are_inputs values = are_values MAX_PROCESSES values
+
+abbrev pub up_to_values : ℕ → Option (List ℕ) → Result (List ℕ) SpecFault
+up_to_values most None = Err (BadLine 3)
+up_to_values most (Some values) = if are_values most values then Ok values else Err Inputs
 
 abbrev pub in_range : Option (List ℕ) → Result (List ℕ) SpecFault
-in_range None = Err (BadLine 3)
-in_range (Some values) = if are_inputs values then Ok values else Err Inputs
+in_range found = up_to_values MAX_PROCESSES found
 
 abbrev pub inputs_line : List ℕ → Result (List ℕ × List ℕ) SpecFault
 inputs_line text = in_range (inputs_of (fields_of (first_line text))) >>= λ values. Ok (values, later_lines text)
+
+-- the inputs of the simulators
+abbrev pub own_line : List ℕ → Result (List ℕ × List ℕ) SpecFault
+own_line text = up_to_values MAX_SIMULATORS (inputs_of (fields_of (first_line text))) >>= λ values. Ok (values, later_lines text)
 
 abbrev pub up_to : ℕ → SpecFault → ℕ → Option ℕ → Result ℕ SpecFault
 up_to most fault line None = Err (BadLine line)
@@ -180,20 +198,66 @@ abbrev pub protocol_of : Result Protocol ParseFault → Result Protocol SpecFaul
 protocol_of (Ok protocol) = Ok protocol
 protocol_of (Err fault) = Err (BadProtocol fault)
 
--- the lines before the protocol's text, in their order; `end` goes on with the room that they say, which lacks its protocol, and
--- that text
-abbrev pub lines_in : {A : Type 0} → ((Protocol → RoomSpec) → List ℕ → Result A SpecFault) → List ℕ → Result A SpecFault
-lines_in end body =
+-- what the lines before that of the rounds say
+pub record Head : Type 0 where
+  pub version : Version
+  pub name : List ℕ
+  pub inputs : List ℕ
+  pub own : List ℕ
+  pub simulators : ℕ
+
+-- its limits
+pub record IsHeadWithin (head : Head) : Type 0 where
+  pub name : is_name head.name ≡ true
+  pub inputs : are_inputs head.inputs ≡ true
+  pub own : AreOwn head.own head.version head.inputs head.simulators
+  pub simulators : (1 ≤ head.simulators) × (head.simulators ≤ MAX_SIMULATORS)
+
+-- the lines from that of the rounds on, in their order, after those that say the rest of a room; `end` goes on with the room that all of
+-- them say, but for its protocol, and with the protocol's text
+abbrev pub rounds_in : {A : Type 0} → ((Protocol → RoomSpec) → List ℕ → Result A SpecFault) → Version → List ℕ → List ℕ → List ℕ → ℕ → List ℕ → Result A SpecFault
+rounds_in end version name inputs own simulators text =
+    number_line 5 (codes "rounds ") MAX_ROUNDS Rounds text
+    >>= λ rounds. fitting (most_bits version) (simulators * length inputs * bits_of rounds.0)
+    >>= λ bits. number_line 6 (codes "turns ") MAX_TURNS Turns rounds.1
+    >>= λ turns. task_line version turns.1
+    >>= λ task. fuse_lines (line_behind_task task.0) simulators task.1
+    >>= λ fuses. end (λ protocol. record { version = version; name = name; inputs = inputs; own = own; simulators = simulators; rounds = rounds.0; turns = turns.0; task = task.0; fuses = fuses.0; protocol = protocol }) fuses.1
+
+abbrev pub after_head : {A : Type 0} → ((Protocol → RoomSpec) → List ℕ → Result A SpecFault) → Head → List ℕ → Result A SpecFault
+after_head end head text = rounds_in end head.version head.name head.inputs head.own head.simulators text
+
+-- the lines before that; `next` goes on with what they say and with the lines after them
+abbrev pub head_in : {A : Type 0} → (Head → List ℕ → Result A SpecFault) → List ℕ → Result A SpecFault
+head_in next body =
     version_line body
     >>= λ version. name_line version.1
     >>= λ name. inputs_line name.1
     >>= λ inputs. number_line 4 (codes "simulators ") MAX_SIMULATORS Simulators inputs.1
-    >>= λ simulators. number_line 5 (codes "rounds ") MAX_ROUNDS Rounds simulators.1
-    >>= λ rounds. fitting (most_bits version.0) (simulators.0 * length inputs.0 * bits_of rounds.0)
-    >>= λ bits. number_line 6 (codes "turns ") MAX_TURNS Turns rounds.1
-    >>= λ turns. task_line version.0 turns.1
-    >>= λ task. fuse_lines (line_behind_task task.0) simulators.0 task.1
-    >>= λ fuses. end (λ protocol. record { version = version.0; name = name.0; inputs = inputs.0; simulators = simulators.0; rounds = rounds.0; turns = turns.0; task = task.0; fuses = fuses.0; protocol = protocol }) fuses.1
+    >>= λ simulators. next (record { version = version.0; name = name.0; inputs = inputs.0; own = []; simulators = simulators.0 }) simulators.1
+
+-- The same of a reduction. Its inputs are those of the simulators, of which there are as many; then comes the number of processes.
+abbrev pub reduction_head_in : {A : Type 0} → (Head → List ℕ → Result A SpecFault) → List ℕ → Result A SpecFault
+reduction_head_in next body =
+    reduction_line body
+    >>= λ version. name_line version.1
+    >>= λ name. own_line name.1
+    >>= λ own. number_line 4 (codes "processes ") MAX_PROCESSES Processes own.1
+    >>= λ processes. next (record { version = version.0; name = name.0; inputs = replicate processes.0 (slice_index own.0 0); own = own.0; simulators = length own.0 }) processes.1
+
+-- all lines before the protocol's text
+abbrev pub lines_in : {A : Type 0} → ((Protocol → RoomSpec) → List ℕ → Result A SpecFault) → List ℕ → Result A SpecFault
+lines_in end body = head_in (after_head end) body
+
+abbrev pub reduction_lines_in : {A : Type 0} → ((Protocol → RoomSpec) → List ℕ → Result A SpecFault) → List ℕ → Result A SpecFault
+reduction_lines_in end body = reduction_head_in (after_head end) body
+
+-- a head and the lines after it
+unfoldable pub head_read : List ℕ → Result (Head × List ℕ) SpecFault
+head_read body = head_in (λ head text. Ok (head, text)) body
+
+unfoldable pub reduction_head_read : List ℕ → Result (Head × List ℕ) SpecFault
+reduction_head_read body = reduction_head_in (λ head text. Ok (head, text)) body
 
 abbrev pub with_protocol : (Protocol → RoomSpec) → List ℕ → Result RoomSpec SpecFault
 with_protocol room text = protocol_of (reading text) >>= λ protocol. Ok (room protocol)
@@ -206,30 +270,57 @@ room_in body = lines_in with_protocol body
 unfoldable pub protocol_text_in : List ℕ → Result (List ℕ) SpecFault
 protocol_text_in body = lines_in (λ room text. Ok text) body
 
-abbrev pub room_before : List ℕ → Option ℕ → Result (RoomSpec × ℕ) SpecFault
-room_before text None = Err Truncated
-room_before text (Some body) = room_in (take body text) >>= λ room. Ok (room, min (body + 4) (length text))
+-- what the lines after a head say, and the protocol's text
+unfoldable pub rounds_read : Head → List ℕ → Result RoomSpec SpecFault
+rounds_read head text = after_head with_protocol head text
 
--- what a block at the front of a text says and how many bytes it takes, or its first fault
+unfoldable pub rounds_text : Head → List ℕ → Result (List ℕ) SpecFault
+rounds_text head text = after_head (λ room text. Ok text) head text
+
+-- what a reduction's lines before the line `end` say, and its protocol's text
+unfoldable pub reduction_in : List ℕ → Result RoomSpec SpecFault
+reduction_in body = reduction_lines_in with_protocol body
+
+unfoldable pub reduction_text_in : List ℕ → Result (List ℕ) SpecFault
+reduction_text_in body = reduction_lines_in (λ room text. Ok text) body
+
+-- what a block at the front of a text says and how many bytes it takes, or its first fault, by how many bytes are before its line
+-- `end`; `read` reads these
+abbrev pub before_end : (List ℕ → Result RoomSpec SpecFault) → List ℕ → Option ℕ → Result (RoomSpec × ℕ) SpecFault
+before_end read text None = Err Truncated
+before_end read text (Some body) = read (take body text) >>= λ room. Ok (room, min (body + 4) (length text))
+
+abbrev pub room_before : List ℕ → Option ℕ → Result (RoomSpec × ℕ) SpecFault
+room_before text body = before_end room_in text body
+
 abbrev pub block_in : List ℕ → Result (RoomSpec × ℕ) SpecFault
 block_in text = room_before text (body_len text)
+
+abbrev pub reduction_block_in : List ℕ → Result (RoomSpec × ℕ) SpecFault
+reduction_block_in text = before_end reduction_in text (body_len text)
 
 -- an allocation for the protocol failed
 abbrev pub out_of_memory : SpecFault
 out_of_memory = BadProtocol OutOfMemory
 
 -- Where memory may be refused to lines: none of those before the protocol's text has a fault, and in that text it is refused at a
--- token that has none, after others that have none.
-pub record MayLackIn (body : List ℕ) : Type 0 where
+-- token that has none, after others that have none. `text_in` finds that text.
+pub record MayLackBy (text_in : List ℕ → Result (List ℕ) SpecFault) (body : List ℕ) : Type 0 where
   pub text : List ℕ
-  pub head : protocol_text_in body ≡ Ok text
+  pub head : text_in body ≡ Ok text
   pub lacks : MayLackMemory text
 
 -- the same of the block at the front of a text
-pub record MayLackAt (text : List ℕ) : Type 0 where
+pub record MayLackAtBy (text_in : List ℕ → Result (List ℕ) SpecFault) (text : List ℕ) : Type 0 where
   pub body : ℕ
   pub ends : body_len text ≡ Some body
-  pub lines : MayLackIn (take body text)
+  pub lines : MayLackBy text_in (take body text)
+
+abbrev pub MayLackIn : List ℕ → Type 0
+MayLackIn body = MayLackBy protocol_text_in body
+
+abbrev pub MayLackAt : List ℕ → Type 0
+MayLackAt text = MayLackAtBy protocol_text_in text
 
 -- what a function returned is this; or, if `lacks` holds, an allocation for the protocol failed
 abbrev pub OrMemory : {A : Type 0} → Type 0 → Result A SpecFault → Result A SpecFault → Type 0

@@ -1,5 +1,5 @@
 -- What a room is given when it is made, and how large it may be.
-use Rattle.std.specs.Prelude.{◌≡◌, ℕ, ◌*◌, ◌<◌, ◌≤◌, Bool, true, List, length, map, Option, Some, None, nat_eq, nat_le, nat_lt, ◌==◌, if◌then◌else◌, ⊤}
+use Rattle.std.specs.Prelude.{◌≡◌, ℕ, ◌*◌, ◌<◌, ◌≤◌, Bool, true, false, List, [], ◌∷◌, length, map, replicate, Option, Some, None, nat_eq, nat_le, nat_lt, ◌==◌, if◌then◌else◌, ⊤}
 use Rattle.std.specs.List.{IsDistinct, find, list_all}
 use Rattle.std.specs.Option.{option_map}
 use Rattle.protocol_lang.specs.Numbers.{greatest}
@@ -12,14 +12,16 @@ use Rattle.room_spec.specs.declared.version.Version.TheVariants.{One, Two}
 use Rattle.protocol_lang.specs.declared.meaning.TheConstants.{MAX_PROCESSES}
 use Rattle.room_spec.specs.declared.spec.TheConstants.{MAX_AGREED, MAX_ROUNDS, MAX_SIMULATORS, MAX_TURNS}
 
--- The version of its block, the room's name, the input of each process, the number of simulators, how often a process may
--- write, how many turns each simulator has, how many different values its task lets the processes decide, if it has one, the
--- fuses, and the protocol. A fuse is a simulator and the number of steps after which it crashes; they are in the order of
--- their lines.
+-- The version of its block, the room's name, the input of each process, the simulators' own inputs, the number of simulators,
+-- how often a process may write, how many turns each simulator has, how many different values its task lets the processes
+-- decide, if it has one, the fuses, and the protocol. A fuse is a simulator and the number of steps after which it crashes; they
+-- are in the order of their lines. In an ordinary room no simulator has an input of its own; a room in which they have is a
+-- reduction.
 pub record RoomSpec : Type 0 where
   pub version : Version
   pub name : List ℕ
   pub inputs : List ℕ
+  pub own : List ℕ
   pub simulators : ℕ
   pub rounds : ℕ
   pub turns : ℕ
@@ -29,6 +31,18 @@ pub record RoomSpec : Type 0 where
 
 abbrev pub processes : RoomSpec → ℕ
 processes spec = length spec.inputs
+
+-- whether the simulators have inputs of their own
+abbrev pub has_own : List ℕ → Bool
+has_own [] = false
+has_own (input ∷ inputs) = true
+
+abbrev pub is_reduction : RoomSpec → Bool
+is_reduction spec = has_own spec.own
+
+-- the ordinary room with these inputs of its processes
+abbrev pub with_inputs : RoomSpec → List ℕ → RoomSpec
+with_inputs spec inputs = record spec { inputs = inputs; own = [] }
 
 -- after how many steps a simulator crashes; nothing if it has no fuse
 abbrev pub fuse_of : List (ℕ × ℕ) → ℕ → Option ℕ
@@ -65,6 +79,13 @@ IsTaskIn version None = ⊤
 IsTaskIn One (Some most) = ⊥
 IsTaskIn Two (Some most) = (1 ≤ most) × (most ≤ MAX_AGREED)
 
+-- The inputs that simulators have of their own are one each. They agree on the input of each process; one that isn't agreed on is
+-- the first simulator's. Such a room has the limits of version 2.
+abbrev pub AreOwn : List ℕ → Version → List ℕ → ℕ → Type 0
+AreOwn [] version inputs simulators = ⊤
+AreOwn (own ∷ others) version inputs simulators =
+    (version ≡ Two) × (inputs ≡ replicate (length inputs) own) × (length {A = ℕ} (own ∷ others) ≡ simulators) × (list_all is_value (own ∷ others) ≡ true)
+
 -- the limits of every room
 pub record IsWithinLimits (spec : RoomSpec) : Type 0 where
   pub name : is_name spec.name ≡ true
@@ -74,6 +95,7 @@ pub record IsWithinLimits (spec : RoomSpec) : Type 0 where
   pub task : IsTaskIn spec.version spec.task
   pub fuses : AreFuses spec.fuses spec.simulators
   pub values : list_all is_value spec.inputs ≡ true
+  pub own : AreOwn spec.own spec.version spec.inputs spec.simulators
   pub numerals : HasSmallNumerals spec.protocol
 
 -- By its protocol each process waits until it sees all but f of the room's processes, and then decides the least value; at least one is

@@ -4,10 +4,10 @@ ghost use Rattle.std.specs.List.{position};
 ghost use Rattle.std.specs.Option.{option_map};
 ghost use Rattle.room_spec.specs.Rooms.{RoomSpec};
 ghost use Rattle.room_spec.specs.Texts.{lines_of};
-ghost use Rattle.room_spec.specs.Grammar.{EndsAt, IsBlock, IsLocal, IsOfText, IsFirstFault};
-ghost use Rattle.room_spec.specs.Blocks.{body_len, is_end, block_len, block_in, GivesOrMemory, MayLackAt, OrMemory, UnlessMemory};
+ghost use Rattle.room_spec.specs.Grammar.{EndsAt, IsBlock, IsReductionBlock, IsLocal, IsReductionLocal, IsOfText, IsFirstFault, IsReductionFirstFault};
+ghost use Rattle.room_spec.specs.Blocks.{body_len, is_end, block_len, block_in, reduction_block_in, reduction_text_in, GivesOrMemory, MayLackAt, MayLackAtBy, OrMemory, UnlessMemory};
 
-use crate::block_lines::read_lines;
+use crate::block_lines::{read_lines, read_reduction_lines};
 use crate::fault::SpecFault;
 use crate::protocols::Protocols;
 use crate::spec::Spec;
@@ -86,6 +86,18 @@ impl<'a> Block<'a> {
     {
         read_lines(alloc, self.body, protocols)
     }
+
+    /// Reads its lines as those of a reduction: the simulators' own inputs, and how many processes there are.
+    #[tactic(auto, using(crate::proofs::Fronts::reduction_says))]
+    pub fn read_reduction(
+        &self,
+        alloc: Global,
+        protocols: &mut Protocols<'a>,
+    ) -> Result<Spec, SpecFault>
+        ensures { GivesOrMemory (MayLackAtBy reduction_text_in self.now) (λ spec. (spec, length self.now)) result (reduction_block_in self.now) }
+    {
+        read_reduction_lines(alloc, self.body, protocols)
+    }
 }
 
 /// Where the room block at the front of a text ends.
@@ -151,4 +163,35 @@ fn read_front(alloc: Global, text: &[u8]) -> Result<(Spec, usize), SpecFault>
     let block = Block::at_front(text).ok_or(SpecFault::Truncated)?;
     let spec = block.read(alloc, &mut protocols)?;
     Ok((spec, block.text.len()))
+}
+
+/// Reads the block of a reduction at the front of `text`, and gives its length too. In place of the processes' inputs its third
+/// line has one of each simulator, and its fourth the number of processes; all else is as in a block of version 2. The fault is
+/// that of the block's first line that has one.
+pub fn read_reduction(alloc: Global, text: &[u8]) -> Result<(Spec, usize), SpecFault>
+    // What is read is the block of a reduction.
+    ensures sound { IfOk result (λ read. IsReductionBlock text.now read.0 read.1) }
+    // What is one is read.
+    ensures complete { (room : RoomSpec) (len : ℕ) → IsReductionBlock text.now room len → OrMemory (MayLackAtBy reduction_text_in text.now) result (Ok (room, len)) }
+    ensures within { IfOk result (λ read. read.1 ≤ length text.now) }
+    // A fault rests on the lines up to its own,
+    ensures local { IfErr result (λ fault. UnlessMemory fault (IsReductionLocal text.now fault)) }
+    // or on the protocol's text, or there is no line `end`.
+    ensures of_text { IfErr result (λ fault. UnlessMemory fault (IsOfText text.now fault)) }
+    // The lines before a fault's own begin some reduction's block; it can't follow them, or the protocol's text has its fault.
+    ensures first { IfErr result (λ fault. UnlessMemory fault (IsReductionFirstFault text.now fault)) }
+    // Which fault it is. An allocation that fails hides none that is found before it.
+    ensures exact { OrMemory (MayLackAtBy reduction_text_in text.now) result (reduction_block_in text.now) }
+{
+    read_reduction_front(alloc, text)
+}
+
+fn read_reduction_front(alloc: Global, text: &[u8]) -> Result<(Spec, usize), SpecFault>
+    ensures exact { OrMemory (MayLackAtBy reduction_text_in text.now) result (reduction_block_in text.now) }
+    ensures within { IfOk result (λ read. read.1 ≤ length text.now) }
+{
+    let mut protocols = Protocols::new(alloc);
+    let found = Block::at_front(text).ok_or(SpecFault::Truncated)?;
+    let spec = found.read_reduction(alloc, &mut protocols)?;
+    Ok((spec, found.text.len()))
 }

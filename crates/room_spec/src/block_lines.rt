@@ -1,10 +1,11 @@
 //! The lines of a room block.
-ghost use Rattle.std.specs.Prelude.{◌≡◌, ◌*◌, ◌≤◌, length, IfOk, IsSome, codes};
+ghost use Rattle.std.specs.Prelude.{◌≡◌, ◌*◌, ◌≤◌, true, length, replicate, IfOk, IsSome, codes};
 ghost use Rattle.std.specs.Option.{option_copied};
 ghost use Rattle.room_spec.specs.Rooms.{IsTaskIn};
+ghost use Rattle.room_spec.specs.Shapes.{head_of};
 ghost use Rattle.room_spec.specs.Texts.{fields_of};
 ghost use Rattle.protocol_lang.specs.Results.{Gives};
-ghost use Rattle.room_spec.specs.Blocks.{version_of, version_line, name_line, inputs_of, in_range, inputs_line, number_line, task_of, task_words, task_line, line_behind_task, room_in, MayLackIn, OrMemory};
+ghost use Rattle.room_spec.specs.Blocks.{IsHeadWithin, MayLackBy, version_of, version_line, reduction_of, reduction_line, name_line, inputs_of, are_values, up_to_values, inputs_line, own_line, head_read, reduction_head_read, rounds_read, rounds_text, reduction_in, reduction_text_in, number_line, task_of, task_words, task_line, line_behind_task, room_in, MayLackIn, OrMemory};
 
 use crate::crash_lines::read_fuses;
 use crate::fault::SpecFault;
@@ -21,13 +22,43 @@ use std::alloc::Global;
 
 /// Reads the lines of a room block that come before its line `end`. The fault is that of the first
 /// line that has one.
-#[tactic(auto, unfolding(crate::specs::Blocks::room_in))]
 pub(crate) fn read_lines<'a>(
     alloc: Global,
     body: &'a [u8],
     protocols: &mut Protocols<'a>,
 ) -> Result<Spec, SpecFault>
     ensures { OrMemory (MayLackIn body.now) result (room_in body.now) }
+{
+    let (head, rest) = read_head(body)?;
+    read_after_head(alloc, rest, head, protocols)
+}
+
+/// The same of a reduction.
+pub(crate) fn read_reduction_lines<'a>(
+    alloc: Global,
+    body: &'a [u8],
+    protocols: &mut Protocols<'a>,
+) -> Result<Spec, SpecFault>
+    ensures { OrMemory (MayLackBy reduction_text_in body.now) result (reduction_in body.now) }
+{
+    let (head, rest) = read_reduction_head(body)?;
+    read_after_head(alloc, rest, head, protocols)
+}
+
+/// What the lines before that of the rounds say.
+#[derive(Drop)]
+pub(crate) struct Head {
+    version: Version,
+    name: Name,
+    inputs: ArrayVec<u32, MAX_PROCESSES>,
+    own: ArrayVec<u32, MAX_SIMULATORS>,
+    simulators: u16,
+}
+
+#[tactic(auto, unfolding(crate::specs::Blocks::head_read))]
+fn read_head(body: &[u8]) -> Result<(Head, &[u8]), SpecFault>
+    ensures value { Gives (λ read. (head_of read.0, read.1.now)) result (head_read body.now) }
+    ensures limits { IfOk result (λ read. IsHeadWithin (head_of read.0)) }
 {
     let (version, rest) = read_version(body)?;
     let (name, rest) = read_name(rest)?;
@@ -39,7 +70,60 @@ pub(crate) fn read_lines<'a>(
         MAX_SIMULATORS as u16,
         SpecFault::Simulators,
     )?;
-    let (rounds, rest) = read_number_line(rest, 5, b"rounds ", MAX_ROUNDS, SpecFault::Rounds)?;
+    let head = Head {
+        version,
+        name,
+        inputs,
+        own: ArrayVec::new(),
+        simulators,
+    };
+    Ok((head, rest))
+}
+
+#[tactic(auto, unfolding(crate::specs::Blocks::reduction_head_read))]
+fn read_reduction_head(body: &[u8]) -> Result<(Head, &[u8]), SpecFault>
+    ensures value { Gives (λ read. (head_of read.0, read.1.now)) result (reduction_head_read body.now) }
+    ensures limits { IfOk result (λ read. IsHeadWithin (head_of read.0)) }
+{
+    let (version, rest) = read_reduction(body)?;
+    let (name, rest) = read_name(rest)?;
+    let (own, rest) = read_own(rest)?;
+    let (processes, rest) = read_number_line(
+        rest,
+        4,
+        b"processes ",
+        MAX_PROCESSES as u16,
+        SpecFault::Processes,
+    )?;
+    let head = Head {
+        version,
+        name,
+        inputs: same_inputs(processes, own[0]),
+        simulators: own.len() as u16,
+        own,
+    };
+    Ok((head, rest))
+}
+
+/// Reads the lines from that of the rounds on.
+#[tactic(auto, unfolding(crate::specs::Blocks::rounds_read))]
+fn read_after_head<'a>(
+    alloc: Global,
+    text: &'a [u8],
+    head: Head,
+    protocols: &mut Protocols<'a>,
+) -> Result<Spec, SpecFault>
+    requires { IsHeadWithin (head_of head) }
+    ensures { OrMemory (MayLackBy (rounds_text (head_of head)) text.now) result (rounds_read (head_of head) text.now) }
+{
+    let Head {
+        version,
+        name,
+        inputs,
+        own,
+        simulators,
+    } = head;
+    let (rounds, rest) = read_number_line(text, 5, b"rounds ", MAX_ROUNDS, SpecFault::Rounds)?;
     if usize::from(simulators) * inputs.len() * bits(usize::from(rounds)) > version.most_bits() {
         return Err(SpecFault::TooWide);
     }
@@ -52,6 +136,7 @@ pub(crate) fn read_lines<'a>(
         version,
         name,
         inputs,
+        own,
         simulators: simulators as u8,
         rounds: rounds as u8,
         turns,
@@ -83,6 +168,24 @@ fn version_of(line: &[u8]) -> Result<Version, SpecFault>
     }
 }
 
+fn read_reduction(text: &[u8]) -> Result<(Version, &[u8]), SpecFault>
+    ensures { Gives (λ read. (read.0, read.1.now)) result (reduction_line text.now) }
+{
+    let (line, rest) = split_line(text);
+    let version = reduction_of(line)?;
+    Ok((version, rest))
+}
+
+fn reduction_of(line: &[u8]) -> Result<Version, SpecFault>
+    ensures { result ≡ reduction_of line.now }
+{
+    if line == b"reduction 1".as_slice() {
+        Ok(Version::Two)
+    } else {
+        Err(SpecFault::BadLine(1))
+    }
+}
+
 fn read_name(text: &[u8]) -> Result<(Name, &[u8]), SpecFault>
     ensures { Gives (λ read. (read.0, read.1.now)) result (name_line text.now) }
 {
@@ -98,12 +201,48 @@ fn read_inputs(text: &[u8]) -> Result<(ArrayVec<u32, MAX_PROCESSES>, &[u8]), Spe
     ensures { Gives (λ read. (read.0.items, read.1.now)) result (inputs_line text.now) }
 {
     let (line, rest) = split_line(text);
-    let inputs = inputs_from(line)?;
+    let inputs = inputs_from(line, MAX_PROCESSES)?;
     Ok((inputs, rest))
 }
 
-fn inputs_from(line: &[u8]) -> Result<ArrayVec<u32, MAX_PROCESSES>, SpecFault>
-    ensures { Gives (λ values. values.items) result (in_range (inputs_of (fields_of line.now))) }
+/// Reads the line of the simulators' own inputs.
+fn read_own(text: &[u8]) -> Result<(ArrayVec<u32, MAX_SIMULATORS>, &[u8]), SpecFault>
+    ensures value { Gives (λ read. (read.0.items, read.1.now)) result (own_line text.now) }
+    ensures are { IfOk result (λ read. are_values MAX_SIMULATORS read.0.items ≡ true) }
+{
+    let (line, rest) = split_line(text);
+    let inputs = inputs_from(line, MAX_SIMULATORS)?;
+    Ok((few_inputs(inputs.as_slice()), rest))
+}
+
+/// The same inputs, of which there are few.
+fn few_inputs(inputs: &[u32]) -> ArrayVec<u32, MAX_SIMULATORS>
+    requires { length inputs.now ≤ MAX_SIMULATORS }
+    ensures { result.items ≡ inputs.now }
+{
+    let mut own = ArrayVec::new();
+    for i in 0..inputs.len() {
+        own.push(inputs[i]);
+    }
+    own
+}
+
+/// The same input for each of these processes.
+fn same_inputs(processes: u16, input: u32) -> ArrayVec<u32, MAX_PROCESSES>
+    requires { processes ≤ MAX_PROCESSES }
+    ensures { result.items ≡ replicate processes input }
+{
+    let mut inputs = ArrayVec::new();
+    for _ in 0..processes {
+        inputs.push(input);
+    }
+    inputs
+}
+
+fn inputs_from(line: &[u8], most: usize) -> Result<ArrayVec<u32, MAX_PROCESSES>, SpecFault>
+    requires { most ≤ MAX_PROCESSES }
+    ensures value { Gives (λ values. values.items) result (up_to_values most (inputs_of (fields_of line.now))) }
+    ensures are { IfOk result (λ values. are_values most values.items ≡ true) }
 {
     let (word, mut rest) = cut_near(line, b' ');
     if word != b"inputs".as_slice() {
@@ -115,7 +254,7 @@ fn inputs_from(line: &[u8]) -> Result<ArrayVec<u32, MAX_PROCESSES>, SpecFault>
         let (field, others) = cut_near(fields, b' ');
         let number = read_number(field).ok_or(SpecFault::BadLine(3))?;
         match u32::try_from(number) {
-            Ok(value) if !values.is_full() => values.push(value),
+            Ok(value) if values.len() < most => values.push(value),
             _ => fits = false,
         }
         rest = others;

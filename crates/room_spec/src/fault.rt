@@ -18,10 +18,12 @@ pub enum SpecFault {
     BadName,
     /// The protocol's text has this fault.
     BadProtocol(ParseFault),
-    /// There aren't 1 to 16 inputs, or one is above 4294967295.
+    /// There aren't 1 to 16 inputs, in a reduction 1 to 8, or one is above 4294967295.
     Inputs,
     /// The number of simulators isn't 1 to 8.
     Simulators,
+    /// The number of processes of a reduction isn't 1 to 16.
+    Processes,
     /// The number of rounds isn't 1 to 15.
     Rounds,
     /// The number of turns isn't 1 to 65535.
@@ -40,7 +42,7 @@ pub enum SpecFault {
 }
 
 impl SpecFault {
-    /// The number by which reports name the fault, 10 to 21.
+    /// The number by which reports name the fault, 10 to 22.
     pub fn code(self) -> u16
         ensures { result ≡ code_of self }
     {
@@ -57,6 +59,7 @@ impl SpecFault {
             SpecFault::CrashLine(_) => 19,
             SpecFault::Repeated(_) => 20,
             SpecFault::TaskLine(_) => 21,
+            SpecFault::Processes => 22,
         }
     }
 
@@ -70,7 +73,8 @@ impl SpecFault {
             SpecFault::BadLine(_) => "the line does not have the form that a block needs here",
             SpecFault::BadName => "`room` is followed by no valid name",
             SpecFault::BadProtocol(_) => "the protocol's text has a fault",
-            SpecFault::Inputs => "there are no inputs, more than 16, or one above 4294967295",
+            SpecFault::Inputs =>
+                "there are no inputs, more than 16 or in a reduction 8, or one above 4294967295",
             SpecFault::Simulators => "the number of simulators is not 1 to 8",
             SpecFault::Rounds => "the number of rounds is not 1 to 15",
             SpecFault::Turns => "the number of turns is not 1 to 65535",
@@ -82,6 +86,7 @@ impl SpecFault {
             }
             SpecFault::Repeated(_) => "the simulator has a `crash` line already",
             SpecFault::TaskLine(_) => "`task` needs `agree` and a number from 1 to 16",
+            SpecFault::Processes => "the number of processes is not 1 to 16",
         }
     }
 }

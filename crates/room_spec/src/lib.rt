@@ -13,7 +13,7 @@ mod spelled;
 mod text;
 mod version;
 
-pub use block::{Block, block_len, read_block};
+pub use block::{Block, block_len, read_block, read_reduction};
 pub use fault::SpecFault;
 pub use name::Name;
 pub use protocols::Protocols;

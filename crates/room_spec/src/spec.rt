@@ -1,7 +1,7 @@
 //! What a room is given when it is made.
-ghost use Rattle.std.specs.Prelude.{◌≡◌, ◌==◌, ◌*◌, ◌<◌, ◌≤◌, IfOk, IfSome, length, slice_index};
-ghost use Rattle.std.specs.List.{list_any};
-ghost use Rattle.room_spec.specs.Rooms.{IsShape, IsWithinLimits, bits_of, fuse_of, processes};
+ghost use Rattle.std.specs.Prelude.{◌≡◌, ◌==◌, ◌*◌, ◌<◌, ◌≤◌, Bool, IfOk, IfSome, true, length, slice_index, slice_get};
+ghost use Rattle.std.specs.List.{list_all, list_any};
+ghost use Rattle.room_spec.specs.Rooms.{IsShape, IsWithinLimits, bits_of, fuse_of, is_reduction, is_value, processes, with_inputs};
 ghost use Rattle.room_spec.specs.Sizes.{memory_words};
 
 use crate::name::Name;
@@ -39,8 +39,10 @@ pub struct Shape {
     pub rounds: usize,
     /// How many memory words there are, found once for each room.
     words: usize,
+    /// Whether the simulators agree on the inputs first.
+    reduction: bool,
     pub ghost limits: { IsShape n m bits rounds },
-    pub ghost counted: { words ≡ memory_words (record { n = n; m = m; bits = bits; rounds = rounds }) },
+    pub ghost counted: { words ≡ memory_words (record { n = n; m = m; bits = bits; rounds = rounds; reduction = reduction }) },
 }
 
 impl Shape {
@@ -67,14 +69,24 @@ impl Shape {
     {
         self.words
     }
+
+    /// Whether the simulators agree on the inputs of the processes first, in a round numbered 0.
+    pub fn is_reduction(&self) -> bool
+        ensures { result ≡ (sizes_of self.now).reduction }
+    {
+        self.reduction
+    }
 }
 
-/// A room's name, inputs, numbers, task, fuses and protocol, within the limits of every room.
+/// A room's name, inputs, numbers, task, fuses and protocol, within the limits of every room. In a reduction the simulators have
+/// inputs of their own, and agree on those of the processes.
 #[derive(Drop)]
 pub struct Spec {
     pub(crate) version: Version,
     pub(crate) name: Name,
     pub(crate) inputs: ArrayVec<u32, MAX_PROCESSES>,
+    /// Empty in an ordinary room.
+    pub(crate) own: ArrayVec<u32, MAX_SIMULATORS>,
     pub(crate) simulators: u8,
     pub(crate) rounds: u8,
     pub(crate) turns: u16,
@@ -90,7 +102,7 @@ impl Model for Spec {
     ghost use Rattle.std.specs.Arc.{arc_value};
     ghost use Rattle.std.specs.Coded.{codes};
     ghost use Rattle.protocol_lang.specs.Codes.{expression_code};
-    ghost use Rattle.room_spec.specs.Rooms.{RoomSpec, IsWithinLimits, bits_of};
+    ghost use Rattle.room_spec.specs.Rooms.{RoomSpec, IsWithinLimits, bits_of, has_own};
     ghost use Rattle.room_spec.specs.Sizes.{memory_words};
 
     ghost Value = { RoomSpec };
@@ -101,6 +113,7 @@ impl Model for Spec {
       version = s.version;
       name = s.name;
       inputs = s.inputs.items;
+      own = s.own.items;
       simulators = s.simulators;
       rounds = s.rounds;
       turns = s.turns;
@@ -114,6 +127,7 @@ impl Model for Spec {
           version = s.version;
           name = s.name;
           inputs = s.inputs.items;
+          own = s.own.items;
           simulators = s.simulators;
           rounds = s.rounds;
           turns = s.turns;
@@ -121,7 +135,7 @@ impl Model for Spec {
           fuses = s.fuses.items;
           protocol = arc_value s.protocol;
         }) ×
-        (s.words ≡ memory_words (record { n = length s.inputs.items; m = s.simulators; bits = bits_of s.rounds; rounds = s.rounds })) };
+        (s.words ≡ memory_words (record { n = length s.inputs.items; m = s.simulators; bits = bits_of s.rounds; rounds = s.rounds; reduction = has_own s.own.items })) };
 }
 
 /// Both share the protocol.
@@ -133,6 +147,7 @@ impl Clone for Spec {
             version: self.version,
             name: self.name.clone()?,
             inputs: self.inputs.clone()?,
+            own: self.own.clone()?,
             simulators: self.simulators,
             rounds: self.rounds,
             turns: self.turns,
@@ -203,6 +218,38 @@ impl Spec {
         self.inputs[j]
     }
 
+    /// Whether the simulators have inputs of their own, and agree on those of the processes.
+    pub fn is_reduction(&self) -> bool
+        ensures { result ≡ is_reduction self.now }
+    {
+        !self.own.is_empty()
+    }
+
+    /// The input of simulator `i` of its own, or `None` in an ordinary room.
+    pub fn own(&self, i: usize) -> Option<u32>
+        ensures { result ≡ slice_get self.now.own i }
+    {
+        self.own.as_slice().get(i).copied()
+    }
+
+    /// The ordinary room whose processes have these inputs, and which is otherwise the same. Of a reduction it is the room of the
+    /// run in which these are agreed on. Both share the protocol.
+    ///
+    /// # Errors
+    ///
+    /// If more owners share the protocol than can be counted.
+    pub fn with_inputs(&self, inputs: &[u32]) -> Result<Spec, AllocError>
+        requires { length inputs.now ≡ processes self.now }
+        ensures { IfOk result (λ spec. spec ≡ with_inputs self.now inputs.now) }
+    {
+        let room = self.clone()?;
+        Ok(Spec {
+            inputs: inputs_in(inputs),
+            own: ArrayVec::new(),
+            ..room
+        })
+    }
+
     /// Whether some process has this input.
     pub fn has_input(&self, value: u32) -> bool
         ensures { result ≡ list_any (λ input. input == value) self.now.inputs }
@@ -264,8 +311,22 @@ impl Spec {
             bits: bits(rounds),
             rounds,
             words: usize::from(self.words),
+            reduction: self.is_reduction(),
         }
     }
+}
+
+/// The same inputs, which are at most as many as processes.
+fn inputs_in(values: &[u32]) -> ArrayVec<u32, MAX_PROCESSES>
+    requires { length values.now ≤ MAX_PROCESSES }
+    ensures value { result.items ≡ values.now }
+    ensures small { list_all is_value values.now ≡ true }
+{
+    let mut inputs = ArrayVec::new();
+    for i in 0..values.len() {
+        inputs.push(values[i]);
+    }
+    inputs
 }
 
 /// The binary digits of a step number, by the room's number of rounds.
@@ -284,7 +345,7 @@ pub(crate) fn bits(rounds: usize) -> usize
 #[tactic(auto, unfolding(crate::specs::Sizes::memory_words))]
 pub(crate) fn memory_words(m: usize, n: usize, rounds: usize) -> u8
     requires { IsShape n m (bits_of rounds) rounds }
-    ensures { result ≡ memory_words (record { n = n; m = m; bits = bits_of rounds; rounds = rounds }) }
+    ensures { (reduction : Bool) → result ≡ memory_words (record { n = n; m = m; bits = bits_of rounds; rounds = rounds; reduction = reduction }) }
 {
     let fields = 64 / bits(rounds);
     ((m * n + (fields - 1)) / fields) as u8

@@ -1,21 +1,20 @@
 -- How a step ends its turn.
-use Rattle.std.proofs.Common.{◌≡◌, ◌∙◌, ℕ, ◌+◌, ◌<◌, ◌&&◌, ◌||◌, Bool, true, false, cond, eqb, ltb, min, List, [], ◌∷◌, ◌++◌, length, Option, Some, None, refl, ap, subst, arith}
-use Rattle.std.specs.Prelude.{slice_index}
+use Rattle.std.proofs.Common.{◌≡◌, ◌∙◌, ℕ, zero, suc, ◌+◌, ◌<◌, ◌&&◌, ◌||◌, Bool, true, false, cond, eqb, ltb, min, List, [], ◌∷◌, ◌++◌, length, Option, Some, None, refl, ap, subst, arith}
 use Rattle.std.proofs.lemmas.List.{get_or-set_same}
 use Rattle.protocol_lang.specs.Meaning.{next_action}
 use Rattle.protocol_lang.specs.Numbers.{greatest}
 use Rattle.protocol_lang.specs.declared.meaning.Action.{Action}
 use Rattle.protocol_lang.specs.declared.meaning.Action.TheVariants as actions
 use Rattle.room_spec.specs.Rooms.{RoomSpec, processes}
-use Rattle.simulator.specs.Minds.{MindState, current_round, goal_at, is_unfinished, next_process}
+use Rattle.simulator.specs.Minds.{MindState, current_input, current_round, first_write, goal_at, is_unfinished, next_process}
 use Rattle.simulator.specs.Moves.{chosen_in, entry_in, is_again, loaded, taken, taken_at}
 use Rattle.simulator.specs.Ranges.{IsMind}
 use Rattle.simulator.specs.Sweeps.{is_resting, works_on}
-use Rattle.simulator.specs.Turns.{TakenOf, acted, after_write, asked, begun, counted, ended, gathered, goes_on, most_collects, on_word, opened, opened_at, padded, scanned, words_in}
+use Rattle.simulator.specs.Turns.{TakenOf, acted, after_write, asked, asks_in, begun, counted, ended, gathered, gets_in, goes_on, most_collects, on_word, opened, opened_at, padded, scanned, stayed, with_input, words_in}
 use Rattle.simulator.specs.declared.goal.Goal.{Goal}
 use Rattle.simulator.specs.declared.goal.Goal.TheVariants as goals
 use Rattle.simulator.specs.declared.line.Line.{Line}
-use Rattle.simulator.specs.declared.line.Line.TheVariants.{Rest, Raise, Snap, Show, Enter, Look, Leave, Ask, GetView, Values, Out}
+use Rattle.simulator.specs.declared.line.Line.TheVariants.{Rest, Raise, Snap, Show, Enter, Look, Leave, Ask, GetInput, GetView, Values, Out}
 use Rattle.simulator.specs.declared.turn.Turn.{Turn}
 use Rattle.simulator.specs.declared.turn.Turn.TheVariants.{Useful, Quiet}
 use Rattle.simulator.proofs.CallerLemmas.{next_is_left}
@@ -31,9 +30,20 @@ on_test : (b : Bool) (process : ℕ) (one other : TakenOf (List ℕ)) → Tells 
 on_test true process one other is that = is
 on_test false process one other is that = that
 
+stays : (turn : Turn) (goal : Goal) (mind : MindState) → mind.process < length mind.goals → turn_of (Some goal) ≡ turn → Tells mind.process (stayed turn goal mind)
+stays turn goal mind below is = ap (λ (g : Goal). turn_of (Some g)) (get_or-set_same mind.goals mind.process goal goals.Done below) ∙ is
+
+quiet_ask : (round : ℕ) → turn_of (Some (asks_in round)) ≡ Quiet
+quiet_ask zero = refl
+quiet_ask (suc round) = refl
+
+on_gets : (round chosen : ℕ) (mind : MindState) → Tells mind.process (goes_on (gets_in round chosen) mind)
+on_gets zero chosen mind = refl
+on_gets (suc round) chosen mind = refl
+
 on_asked : (chosen : Option ℕ) (mind : MindState) → mind.process < length mind.goals → Tells mind.process (asked chosen mind)
-on_asked None mind below = ends Quiet (goals.Ask (current_round mind)) mind below refl
-on_asked (Some chosen) mind below = refl
+on_asked None mind below = ends Quiet (asks_in (current_round mind)) mind below (quiet_ask (current_round mind))
+on_asked (Some chosen) mind below = on_gets (current_round mind) chosen mind
 
 useful_write : (b : Bool) (round value : ℕ) → turn_of (Some (cond b (goals.Write round value) goals.Spent)) ≡ Useful
 useful_write true round value = refl
@@ -47,7 +57,7 @@ on_acted spec (actions.Decide decision) mind below = refl
 on_gathered : (row : ℕ → ℕ) (spec : RoomSpec) (entries : List (Option ℕ)) (mind : MindState) → mind.process < length mind.goals → Tells mind.process (gathered row spec entries mind)
 on_gathered row spec entries mind below =
     let all : MindState = record mind { entries = padded row (processes spec) entries } in
-    let action = next_action spec.protocol (slice_index spec.inputs all.process) all.process (current_round all) all.entries in
+    let action = next_action spec.protocol (current_input spec all) all.process (current_round all) all.entries in
     on_test (ltb (length all.entries) (processes spec)) mind.process (goes_on Values all) (acted spec action all) refl (on_acted spec action all below)
 
 on_words : (spec : RoomSpec) (line : Line) (mind : MindState) (process : ℕ) (last : TakenOf (List ℕ)) → is_resting line ≡ false → Tells process last → Tells process (on_word spec line mind last)
@@ -61,6 +71,8 @@ on_scanned spec same mind process =
 on_opened_at : (goal : Goal) (chosen : Option ℕ) (mind : MindState) → is_unfinished goal ≡ true → mind.process < length mind.goals → Tells mind.process (opened_at goal chosen mind)
 on_opened_at (goals.Write round value) chosen mind left below = refl
 on_opened_at (goals.Ask round) chosen mind left below = on_asked chosen mind below
+on_opened_at (goals.Propose value) chosen mind left below = refl
+on_opened_at goals.AskInput chosen mind left below = on_asked chosen mind below
 on_opened_at goals.Done chosen mind left below = absurd cc
 on_opened_at goals.Spent chosen mind left below = absurd cc
 
@@ -85,6 +97,9 @@ on_open Enter spec mind answer goes below = refl
 on_open Look spec mind answer goes below = refl
 on_open (Leave saw_two) spec mind answer goes below = refl
 on_open Ask spec mind answer goes below = on_asked (chosen_in spec answer) mind below
+on_open (GetInput chosen) spec mind answer goes below =
+    let input = min answer greatest in
+    stays Useful (first_write spec input mind.process) (with_input input mind) below refl
 on_open (GetView chosen) spec mind answer goes below =
     let got = loaded answer mind in
     on_words spec (GetView chosen) got mind.process (gathered (entry_in spec got.snapshot) spec [] (record got { word = 0 })) refl (on_gathered (entry_in spec got.snapshot) spec [] (record got { word = 0 }) below)

@@ -7,7 +7,7 @@ use Rattle.simulator.specs.Moves.{IsOperation, first_move, move_at, move_of}
 use Rattle.simulator.specs.Ranges.{IsMind}
 use Rattle.simulator.specs.Sweeps.{SweepState, is_resting, opening_sweep, works_on}
 use Rattle.simulator.specs.declared.line.Line.{Line}
-use Rattle.simulator.specs.declared.line.Line.TheVariants.{Rest, Raise, Snap, Show, Enter, Look, Leave, Ask, GetView, Values, Out}
+use Rattle.simulator.specs.declared.line.Line.TheVariants.{Rest, Raise, Snap, Show, Enter, Look, Leave, Ask, GetInput, GetView, Values, Out}
 use Rattle.simulator.specs.declared.sweep.Ready.{Ready}
 use Rattle.simulator.specs.declared.sweep.Ready.TheVariants as ready
 use Rattle.simulator.proofs.CallerLemmas.{moves}
@@ -40,6 +40,7 @@ works_at Enter found spec mind is moving = λ none. absurd cc
 works_at Look found spec mind is moving = λ none. absurd cc
 works_at (Leave saw_two) found spec mind is moving = λ none. absurd cc
 works_at Ask found spec mind is moving = λ none. absurd cc
+works_at (GetInput chosen) found spec mind is moving = λ none. absurd cc
 works_at (GetView chosen) found spec mind is moving = λ none. absurd cc
 works_at Values found spec mind is moving = λ none. absurd cc
 works_at (Out decision) found spec mind is moving = λ none. absurd cc

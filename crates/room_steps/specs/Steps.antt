@@ -41,10 +41,12 @@ new_decision None after = after
 new_decision (Some decision) after = None
 
 -- How a step ended its turn, by what it left to do for the process: the turn goes on; or it was quiet, and the process still asks for its
--- snapshot; or it was useful.
+-- snapshot, or in a reduction for its input; or it was useful.
 abbrev pub turn_of : Option Goal → Turn
 turn_of None = Still
 turn_of (Some (goals.Ask round)) = Quiet
+turn_of (Some goals.AskInput) = Quiet
+turn_of (Some (goals.Propose value)) = Useful
 turn_of (Some (goals.Write round value)) = Useful
 turn_of (Some goals.Done) = Useful
 turn_of (Some goals.Spent) = Useful

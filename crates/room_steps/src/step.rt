@@ -21,7 +21,7 @@ pub struct AtomicStep {
     pub turn: u64,
     /// The process that the turn works on.
     pub process: usize,
-    /// The round of the write or of the snapshot that the turn works on, counted from 1.
+    /// The round of the write or of the snapshot that the turn works on, counted from 1; 0 if it works on the process's input, as in a reduction.
     pub round: u8,
     /// The line of the turn; [`Line::Rest`] for its first step.
     pub line: Line,

@@ -7,6 +7,8 @@ mod calls;
 #[cfg(test)]
 mod fixture;
 #[cfg(test)]
+mod reductions;
+#[cfg(test)]
 mod shared;
 #[cfg(test)]
 mod stops;

@@ -1,6 +1,6 @@
 -- What is warned of in a room that is valid.
 use Rattle.std.specs.Prelude.{ℕ, ◌+◌, ◌-◌, ◌*◌, ◌==◌, ◌&&◌, Bool, not, List, [], ◌∷◌, ◌++◌, length, take, nat_lt, codes, if◌then◌else◌}
-use Rattle.room_spec.specs.Rooms.{RoomSpec, processes}
+use Rattle.room_spec.specs.Rooms.{RoomSpec, is_reduction, processes}
 use Rattle.room_spec.specs.Texts.{first_line}
 use Rattle.fault_text.specs.Blocks.{later_line, line_ends, program_of}
 use Rattle.fault_text.specs.Lines.{last_line, line_at}
@@ -8,22 +8,30 @@ use Rattle.room_warnings.specs.Calls.{calls_none}
 use Rattle.room_warnings.specs.Json.{warning_in}
 use Rattle.room_warnings.specs.Rules.{holds_always}
 use Rattle.room_warnings.specs.Words.{has_word}
-use Rattle.room_warnings.specs.declared.warnings.TheConstants.{ALWAYS, NO_DECISION, NO_PROCESS, ONE_PROCESS, TOO_FEW, TOO_FEW_UNDECIDED}
+use Rattle.room_warnings.specs.declared.warnings.TheConstants.{ALWAYS, NO_DECISION, NO_PROCESS, ONE_PROCESS, TOO_FEW, TOO_FEW_SHARED, TOO_FEW_SHARED_UNDECIDED, TOO_FEW_UNDECIDED}
 
 -- ---- inputs
 
--- each value of the line `inputs` is the input of a process of its own, so one value says that there is one process
+-- each value of the line `inputs` is the input of a process of its own, so one value says that there is one process; a reduction has a line that says it
 abbrev pub inputs_warning : Bool → ℕ → List ℕ → RoomSpec → List ℕ
-inputs_warning json first block spec = if processes spec == 1 then warning_in json (later_line first 2) ONE_PROCESS.now [] (line_at 3 block) else []
+inputs_warning json first block spec = if (processes spec == 1) && not (is_reduction spec) then warning_in json (later_line first 2) ONE_PROCESS.now [] (line_at 3 block) else []
 
 -- ---- turns
+
+-- how many turns a simulator that runs alone takes for a process before its first write: in a reduction one, to agree on its input
+abbrev pub turns_before : RoomSpec → ℕ
+turns_before spec = if is_reduction spec then 1 else 0
+
+-- the sentence for an ordinary room, or that for a reduction
+abbrev pub too_few : RoomSpec → List ℕ → List ℕ → List ℕ
+too_few spec ordinary shared = if is_reduction spec then shared else ordinary
 
 -- A turn takes one process through at most one round. So a simulator that runs alone needs a turn for each process, and, if no process decides,
 -- for each round of each. Several simulators may finish with fewer turns each.
 abbrev pub turns_sentence : Bool → RoomSpec → List ℕ
 turns_sentence decides spec =
-    if nat_lt spec.turns (processes spec) then TOO_FEW.now
-    else if not decides && nat_lt spec.turns (processes spec * spec.rounds) then TOO_FEW_UNDECIDED.now
+    if nat_lt spec.turns (processes spec * (1 + turns_before spec)) then too_few spec TOO_FEW.now TOO_FEW_SHARED.now
+    else if not decides && nat_lt spec.turns (processes spec * (spec.rounds + turns_before spec)) then too_few spec TOO_FEW_UNDECIDED.now TOO_FEW_SHARED_UNDECIDED.now
     else []
 
 abbrev pub turns_warning : Bool → ℕ → List ℕ → List ℕ → List ℕ

@@ -2,7 +2,7 @@
 ghost use Rattle.std.specs.Prelude.{◌≡◌, ◌-◌, ◌*◌, ◌≤◌, ◌++◌, IfOk, OnOk, length, take};
 ghost use Rattle.fault_text.specs.declared.blocks.TheConstants.{HEAD_LINES};
 ghost use Rattle.room_spec.specs.Rooms.{processes};
-ghost use Rattle.room_warnings.specs.Warnings.{at_place, decide_warning, from_place, inputs_warning, number_warnings, place_sentence, room_warnings, sentence_if, turns_sentence, turns_warning};
+ghost use Rattle.room_warnings.specs.Warnings.{at_place, decide_warning, from_place, inputs_warning, number_warnings, place_sentence, room_warnings, sentence_if, too_few, turns_before, turns_sentence, turns_warning};
 
 use crate::calls::calls_none;
 use crate::json::{Format, Warning, write_warning};
@@ -30,6 +30,14 @@ const ONE_PROCESS: &[u8] =
 /// At the line of the turns.
 const TOO_FEW: &[u8] =
     b"warning: too few turns for a simulator to finish alone: it needs one for each process";
+
+/// The same in a reduction, where it needs a turn more for each process, to agree on the process's input.
+const TOO_FEW_SHARED: &[u8] =
+    b"warning: too few turns for a simulator to finish alone: it needs two for each process, of which the first agrees on its input";
+
+/// The same of a reduction if no process decides.
+const TOO_FEW_SHARED_UNDECIDED: &[u8] =
+    b"warning: too few turns for a simulator to finish alone: it needs one for the input of each process, and one for each of its rounds";
 
 /// The same if no process decides.
 const TOO_FEW_UNDECIDED: &[u8] =
@@ -87,7 +95,7 @@ fn write_number_warnings(
     write_turns_warning(format, output, room, sentence)
 }
 
-/// Writes that a room has a single process, if it has, about the line of its inputs.
+/// Writes that a room has a single process, if it has, about the line of its inputs. A reduction has a line that says it.
 fn write_inputs_warning(
     format: Format,
     output: &mut Text,
@@ -95,7 +103,7 @@ fn write_inputs_warning(
 ) -> Result<(), AllocError>
     ensures { OnOk result (output.new ≡ output.old ++ inputs_warning format.json room.now.first room.now.block.now room.now.spec.now) }
 {
-    if room.spec.n() != 1 {
+    if room.spec.n() != 1 || room.spec.is_reduction() {
         return Ok(());
     }
     let warning = Warning {
@@ -112,13 +120,33 @@ fn turns_sentence(decides: bool, spec: &Spec) -> &'static [u8]
     ensures { result.now ≡ turns_sentence decides spec.now }
 {
     let turns = spec.turns();
-    if turns < spec.n() as u64 {
-        TOO_FEW
-    } else if !decides && turns < (spec.n() * spec.rounds()) as u64 {
-        TOO_FEW_UNDECIDED
+    let before = turns_before(spec);
+    if turns < (spec.n() * (1 + before)) as u64 {
+        too_few(spec, TOO_FEW, TOO_FEW_SHARED)
+    } else if !decides && turns < (spec.n() * (spec.rounds() + before)) as u64 {
+        too_few(spec, TOO_FEW_UNDECIDED, TOO_FEW_SHARED_UNDECIDED)
     } else {
         &[]
     }
+}
+
+/// The sentence for an ordinary room, or that for a reduction.
+fn too_few(spec: &Spec, ordinary: &'static [u8], shared: &'static [u8]) -> &'static [u8]
+    ensures { result.now ≡ too_few spec.now ordinary.now shared.now }
+{
+    if spec.is_reduction() {
+        shared
+    } else {
+        ordinary
+    }
+}
+
+/// How many turns a simulator that runs alone takes for a process before its first write: in a reduction one, to agree on its input.
+fn turns_before(spec: &Spec) -> usize
+    ensures value { result ≡ turns_before spec.now }
+    ensures few { result ≤ 1 }
+{
+    if spec.is_reduction() { 1 } else { 0 }
 }
 
 /// Writes a sentence, unless it is empty, about the line of a room's turns.

@@ -99,6 +99,7 @@ no_spec = record {
   version = One;
   name = [];
   inputs = [];
+  own = [];
   simulators = 0;
   rounds = 0;
   turns = 0;

@@ -34,9 +34,9 @@ pub one_chosen : (agreement : Agreement) (i j : ℕ) (marks : List Mark) (events
     → fate_of agreement i marks events ≡ Chosen → fate_of agreement j marks events ≡ Chosen → i ≡ j
 one_chosen agreement i j marks events one two =
     let other = chosen agreement.process agreement.round marks in
-    let resolved = is_resolved agreement events in
+    let resolved = is_resolved agreement marks events in
     one_by other i j (that_by resolved (is_that other i) (has_done agreement Withdraw i marks) one) (that_by resolved (is_that other j) (has_done agreement Withdraw j marks) two)
 
-pub chosen_when_resolved : (agreement : Agreement) (i : ℕ) (marks : List Mark) (events : List Event) → fate_of agreement i marks events ≡ Chosen → is_resolved agreement events ≡ true
+pub chosen_when_resolved : (agreement : Agreement) (i : ℕ) (marks : List Mark) (events : List Event) → fate_of agreement i marks events ≡ Chosen → is_resolved agreement marks events ≡ true
 chosen_when_resolved agreement i marks events is =
-    resolved_by (is_resolved agreement events) (is_that (chosen agreement.process agreement.round marks) i) (has_done agreement Withdraw i marks) is
+    resolved_by (is_resolved agreement marks events) (is_that (chosen agreement.process agreement.round marks) i) (has_done agreement Withdraw i marks) is

@@ -27,6 +27,7 @@ kind_of lines.Look operation = Look
 kind_of (lines.Leave true) operation = Withdraw
 kind_of (lines.Leave false) operation = Stand
 kind_of lines.Ask operation = Ask
+kind_of (lines.GetInput chosen) operation = LoadValue
 kind_of (lines.GetView chosen) operation = LoadView
 kind_of lines.Values operation = LoadValue
 kind_of (lines.Out decision) operation = Decide

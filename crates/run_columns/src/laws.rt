@@ -26,5 +26,5 @@ pub fn one_is_chosen()
     ensures one { (agreement : AgreementData) (i j : ℕ) (marks : List MarkData) (events : List EventData) →
         fate_of agreement i marks events ≡ ChosenOf → fate_of agreement j marks events ≡ ChosenOf → i ≡ j }
     ensures resolved { (agreement : AgreementData) (i : ℕ) (marks : List MarkData) (events : List EventData) →
-        fate_of agreement i marks events ≡ ChosenOf → is_resolved agreement events ≡ true }
+        fate_of agreement i marks events ≡ ChosenOf → is_resolved agreement marks events ≡ true }
 {}

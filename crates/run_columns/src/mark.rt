@@ -7,7 +7,7 @@ use simulator::Turn;
 /// What an atomic step does for its process.
 #[derive(Clone, Copy)]
 pub enum StepKind {
-    /// It stores the process's next write.
+    /// It stores the process's next write, or in round 0 the input that it proposes for the process.
     StoreWrite,
     /// It counts that write.
     CountWrite,
@@ -27,7 +27,7 @@ pub enum StepKind {
     Ask,
     /// It loads the chosen proposal, or one word of it.
     LoadView,
-    /// It loads a value that the chosen proposal shows.
+    /// It loads a value that the chosen proposal shows, or in round 0 the chosen input.
     LoadValue,
     /// It stores the decision.
     Decide,
@@ -41,11 +41,11 @@ pub struct Step {
     pub simulator: u8,
     /// The process that the turn works on.
     pub process: u8,
-    /// The round of the process, counted from 1.
+    /// The round of the process, counted from 1; 0 while a reduction's simulators agree on the process's input.
     pub round: u8,
     /// Which word of a snapshot it loads or stores, counted from 0, if the snapshot takes several.
     pub word: Option<u8>,
-    /// The number that it stores in its word of the shared memory; 0 if it stores none. Of a proposal it is a word of step numbers.
+    /// The number that it stores in its word of the shared memory; 0 if it stores none. Of a proposal it is a word of step numbers, or an input.
     pub stored: u64,
     pub kind: StepKind,
     /// Whether it ends the turn, and how.

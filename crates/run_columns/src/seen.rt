@@ -62,7 +62,7 @@ fn kind_of(line: Line, operation: Move) -> StepKind
         Line::Leave { saw_two: false } => StepKind::Stand,
         Line::Ask => StepKind::Ask,
         Line::GetView { .. } => StepKind::LoadView,
-        Line::Values => StepKind::LoadValue,
+        Line::GetInput { .. } | Line::Values => StepKind::LoadValue,
         Line::Out { .. } => StepKind::Decide,
     }
 }
@@ -93,13 +93,13 @@ fn word_in(place: Place) -> Option<u8>
     }
 }
 
-/// Whether a step ended its turn, after which this is left to do: an ask for the same snapshot if the turn was quiet.
+/// Whether a step ended its turn, after which this is left to do: an ask for the same snapshot, or for the input, if the turn was quiet.
 fn end_of(left: Option<Goal>) -> Turn
     ensures { result ≡ turn_of left }
 {
     match left {
         None => Turn::Still,
-        Some(Goal::Ask { .. }) => Turn::Quiet,
+        Some(Goal::Ask { .. } | Goal::AskInput) => Turn::Quiet,
         Some(_) => Turn::Useful,
     }
 }

@@ -1,0 +1,2 @@
+mod OwnInputs
+mod WorkedHeads

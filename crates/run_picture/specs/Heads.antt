@@ -1,8 +1,8 @@
 -- What is above the lanes of a room: its name, its numbers, and its protocol as the author wrote it.
-use Rattle.std.specs.Prelude.{ℕ, ◌+◌, ◌*◌, ◌==◌, Bool, List, [], ◌∷◌, ◌++◌, codes, decimal, length, min, if◌then◌else◌}
+use Rattle.std.specs.Prelude.{ℕ, ◌+◌, ◌*◌, ◌==◌, Bool, List, [], ◌∷◌, ◌++◌, codes, decimal, length, min, Option, Some, None, if◌then◌else◌}
 use Rattle.std.specs.List.{flat_map}
 use Rattle.std.specs.Str.{bytes_eq}
-use Rattle.room_spec.specs.Rooms.{RoomSpec}
+use Rattle.room_spec.specs.Rooms.{RoomSpec, is_reduction, processes}
 use Rattle.room_files.specs.Lines.{text_lines}
 use Rattle.picture_shapes.specs.declared.colour.Colour.TheVariants.{Faint, Ink}
 use Rattle.picture_shapes.specs.declared.shape.Shape.{Shape}
@@ -14,7 +14,6 @@ use Rattle.simulator_lanes.specs.declared.panel.Head.{Head}
 use Rattle.simulator_lanes.specs.Words.{clipped, counted}
 use Rattle.run_picture.specs.declared.head.TheConstants.{MAX_LINES}
 
--- 2 processes with inputs 7 3, 2 simulators, 1 round
 unfoldable pub inputs_words : List ℕ → List ℕ
 inputs_words inputs = flat_map (λ input. 32 ∷ decimal input) inputs
 
@@ -24,12 +23,35 @@ inputs_count count = counted count (codes " process with input") (codes " proces
 unfoldable pub processes_words : List ℕ → List ℕ
 processes_words inputs = inputs_count (length inputs) ++ inputs_words inputs
 
+unfoldable pub rounds_words : ℕ → List ℕ
+rounds_words rounds = codes ", " ++ counted rounds (codes " round") (codes " rounds")
+
 unfoldable pub numbers_words : ℕ → ℕ → List ℕ
 numbers_words simulators rounds =
-    codes ", " ++ (counted simulators (codes " simulator") (codes " simulators") ++ (codes ", " ++ counted rounds (codes " round") (codes " rounds")))
+    codes ", " ++ (counted simulators (codes " simulator") (codes " simulators") ++ rounds_words rounds)
 
-unfoldable pub room_words : RoomSpec → List ℕ
-room_words spec = processes_words spec.inputs ++ numbers_words spec.simulators spec.rounds
+-- 2 processes with inputs 7 3, 2 simulators, 1 round
+unfoldable pub ordinary_words : RoomSpec → List ℕ
+ordinary_words spec = processes_words spec.inputs ++ numbers_words spec.simulators spec.rounds
+
+-- the simulators of a reduction have the inputs
+unfoldable pub own_count : ℕ → List ℕ
+own_count count = counted count (codes " simulator with input") (codes " simulators with inputs")
+
+abbrev pub own_input : Option ℕ → List ℕ
+own_input None = []
+own_input (Some own) = 32 ∷ decimal own
+
+unfoldable pub own_words : ℕ → List ℕ → List ℕ
+own_words simulators own = codes ", " ++ (own_count simulators ++ inputs_words own)
+
+-- 3 processes, 2 simulators with inputs 7 3, 1 round
+unfoldable pub reduction_words : RoomSpec → List ℕ
+reduction_words spec =
+    counted (processes spec) (codes " process") (codes " processes") ++ (own_words spec.simulators spec.own ++ rounds_words spec.rounds)
+
+abbrev pub room_words : RoomSpec → List ℕ
+room_words spec = if is_reduction spec then reduction_words spec else ordinary_words spec
 
 -- ---- the protocol
 

@@ -1,5 +1,5 @@
 -- What the letters stand for, below all rooms.
-use Rattle.std.specs.Prelude.{ℕ, ◌+◌, ◌*◌, ◌/◌, ◌%◌, nat_le, ◌&&◌, not, Bool, false, List, [], ◌∷◌, ◌++◌, is_some, codes, length, if◌then◌else◌}
+use Rattle.std.specs.Prelude.{ℕ, ◌+◌, ◌*◌, ◌/◌, ◌%◌, nat_le, ◌&&◌, ◌||◌, not, Bool, true, false, List, [], ◌∷◌, ◌++◌, is_some, codes, length, if◌then◌else◌}
 use Rattle.std.specs.List.{filter, list_any}
 use Rattle.picture_shapes.specs.declared.colour.Colour.TheVariants.{Faint}
 use Rattle.picture_shapes.specs.declared.shape.Shape.{Shape}
@@ -9,6 +9,7 @@ use Rattle.run_columns.specs.declared.mark.StepKind.TheVariants.{Propose}
 use Rattle.run_columns.specs.declared.mark.Mark.{Mark}
 use Rattle.run_columns.specs.declared.mark.Mark.TheVariants.{Step, Crash}
 use Rattle.run_columns.specs.Columns.{most_columns}
+use Rattle.run_columns.specs.Proposals.{proposes_input}
 use Rattle.run_columns.specs.StepKinds.{all_kinds, is_same, letter_of, meaning_of}
 use Rattle.simulator_lanes.specs.declared.fonts.TheConstants.{LEGEND, WORDS}
 use Rattle.simulator_lanes.specs.declared.layout.TheConstants.{MARGIN}
@@ -58,15 +59,38 @@ note y words = Label (record { x = MARGIN; y = y }) WORDS Faint words ∷ []
 abbrev pub words_note : List ℕ
 words_note = codes "S0, V1, ..: the number of the word, of several that a snapshot takes"
 
-abbrev pub proposals_note : List ℕ
-proposals_note = codes "below V: how many writes of each process it proposes; framed: chosen"
+-- a step proposes an input
+abbrev pub shows_input : Mark → Bool
+shows_input (Step step) = proposes_input step
+shows_input (Crash simulator) = false
+
+abbrev pub has_inputs : Style → Panel → Bool
+has_inputs style panel = has_letters style panel && list_any shows_input panel.marks
+
+abbrev pub snapshots_note : List ℕ
+snapshots_note = codes "below V: how many writes of each process it proposes; framed: chosen"
+
+abbrev pub inputs_note : List ℕ
+inputs_note = codes "below W in round 0: the input that it proposes; framed: chosen"
+
+abbrev pub both_note : List ℕ
+both_note = codes "proposed below V: how many writes of each process; below W: an input; framed: chosen"
+
+-- what is below the squares, if snapshots are proposed, and inputs
+abbrev pub proposals_note : Bool → Bool → List ℕ
+proposals_note true true = both_note
+proposals_note true false = snapshots_note
+proposals_note false inputs = inputs_note
 
 abbrev pub dropped_note : List ℕ
 dropped_note = codes "struck through: withdrawn, or another was chosen"
 
+abbrev pub proposals_notes : Bool → Bool → List Shape
+proposals_notes snapshots inputs = if snapshots || inputs then note 72 (proposals_note snapshots inputs) ++ note 88 dropped_note else []
+
 abbrev pub notes : Style → List Panel → List Shape
 notes style panels =
-    (if list_any (has_letter style Propose) panels then note 72 proposals_note ++ note 88 dropped_note else [])
+    proposals_notes (list_any (has_letter style Propose) panels) (list_any (has_inputs style) panels)
     ++ (if list_any (has_words style) panels then note 104 words_note else [])
 
 -- the letters, and what else is to be explained

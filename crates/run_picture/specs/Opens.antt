@@ -1,4 +1,4 @@
--- The proposals that may still be chosen, in the lane of the process whose snapshot they are.
+-- The proposals that may still be chosen, in the lane of the process whose snapshot or input they are.
 use Rattle.std.specs.Prelude.{ℕ, List, [], ◌∷◌, ◌++◌, Option, Some, None, codes, decimal, if◌then◌else◌}
 use Rattle.std.specs.List.{flat_map, range_with_len}
 use Rattle.picture_shapes.specs.declared.colour.Colour.TheVariants.{Faint}
@@ -10,13 +10,13 @@ use Rattle.run_columns.specs.Proposals.{choice_of, is_open, next_agreement}
 use Rattle.simulator_lanes.specs.declared.fonts.TheConstants.{SMALL}
 use Rattle.simulator_lanes.specs.declared.layout.TheConstants.{LEFT}
 use Rattle.simulator_lanes.specs.Panels.{Panel, events_in}
-use Rattle.simulator_lanes.specs.Proposals.{counts_of, proposer}
+use Rattle.simulator_lanes.specs.Proposals.{proposal_words, proposer}
 use Rattle.simulator_lanes.specs.Words.{clipped, simulator_name}
 
 -- ; simulator 0 proposed 1 .
 unfoldable pub proposal_if : Panel → Agreement → ℕ → List ℕ
 proposal_if panel agreement simulator =
-    if is_open agreement simulator panel.marks (events_in panel.report) then codes "; " ++ (proposer simulator ++ counts_of panel agreement simulator) else []
+    if is_open agreement simulator panel.marks (events_in panel.report) then codes "; " ++ (proposer simulator ++ proposal_words panel agreement simulator) else []
 
 unfoldable pub open_proposals : Panel → Agreement → List ℕ
 open_proposals panel agreement = flat_map (proposal_if panel agreement) (range_with_len 0 panel.head.spec.simulators)
@@ -48,7 +48,11 @@ abbrev pub shapes_of : ℕ → Agreement → Option ℕ → List ℕ → List Sh
 shapes_of y agreement choice [] = []
 shapes_of y agreement choice (byte ∷ bytes) = open_label y (open_words agreement choice (byte ∷ bytes))
 
+-- what may be chosen in an agreement
+abbrev pub open_in : ℕ → Panel → Agreement → List Shape
+open_in y panel agreement = shapes_of y agreement (choice_of agreement panel.marks) (open_proposals panel agreement)
+
 -- an agreement in which nothing is proposed isn't mentioned
 abbrev pub open_shapes : ℕ → Panel → ℕ → List Shape
 open_shapes y panel process =
-    shapes_of y (next_agreement process (events_in panel.report)) (choice_of (next_agreement process (events_in panel.report)) panel.marks) (open_proposals panel (next_agreement process (events_in panel.report)))
+    open_in y panel (next_agreement process panel.marks (events_in panel.report))

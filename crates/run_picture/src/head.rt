@@ -1,7 +1,7 @@
 //! What is above the lanes of a room.
 ghost use Rattle.std.specs.Prelude.{◌≡◌, ◌++◌, ◌≤◌, IfOk, OnOk};
 ghost use Rattle.room_files.specs.Lines.{text_lines};
-ghost use Rattle.run_picture.specs.Heads.{after_protocol, before_end, head_height, head_shapes, head_width, inputs_count, inputs_words, is_end, is_protocol, line_shapes, lines_from, more_shapes, numbers_words, processes_words, room_words, shown_lines, title_shapes};
+ghost use Rattle.run_picture.specs.Heads.{after_protocol, before_end, head_height, head_shapes, head_width, inputs_count, inputs_words, is_end, is_protocol, line_shapes, lines_from, more_shapes, numbers_words, ordinary_words, own_count, own_input, own_words, processes_words, reduction_words, room_words, rounds_words, shown_lines, title_shapes};
 
 use io_text::Text;
 use picture_shapes::{Colour, Frame, Point, Sheet};
@@ -122,15 +122,25 @@ pub(crate) fn head_width(alloc: Global, head: &Head) -> Result<u64, AllocError>
     Ok(7 * words.as_bytes().len().min(1000) as u64 + 32)
 }
 
-/// How many processes, simulators and rounds a room has, and with which inputs.
-#[tactic(auto, unfolding(crate::specs::Heads::room_words))]
+/// How many processes, simulators and rounds a room has, and which of the first two have which inputs.
 fn room_words(alloc: Global, spec: &Spec) -> Result<Text, AllocError>
     ensures { IfOk result (λ words. words ≡ room_words spec.now) }
 {
     let mut words = Text::new(alloc);
-    write_processes(&mut words, spec)?;
-    write_numbers(&mut words, spec)?;
+    if spec.is_reduction() {
+        write_reduction(&mut words, spec)?;
+    } else {
+        write_ordinary(&mut words, spec)?;
+    }
     Ok(words)
+}
+
+#[tactic(auto, unfolding(crate::specs::Heads::ordinary_words))]
+fn write_ordinary(output: &mut Text, spec: &Spec) -> Result<(), AllocError>
+    ensures { OnOk result (output.new ≡ output.old ++ ordinary_words spec.now) }
+{
+    write_processes(output, spec)?;
+    write_numbers(output, spec)
 }
 
 #[tactic(auto, unfolding(crate::specs::Heads::processes_words))]
@@ -169,6 +179,64 @@ fn write_numbers(output: &mut Text, spec: &Spec) -> Result<(), AllocError>
 {
     output.put(b", ")?;
     write_counted(output, spec.m() as u64, b" simulator", b" simulators")?;
+    write_rounds(output, spec.rounds())
+}
+
+#[tactic(auto, unfolding(crate::specs::Heads::rounds_words))]
+fn write_rounds(output: &mut Text, rounds: usize) -> Result<(), AllocError>
+    ensures { OnOk result (output.new ≡ output.old ++ rounds_words rounds) }
+{
     output.put(b", ")?;
-    write_counted(output, spec.rounds() as u64, b" round", b" rounds")
+    write_counted(output, rounds as u64, b" round", b" rounds")
+}
+
+/// In a reduction the simulators have the inputs.
+#[tactic(auto, unfolding(crate::specs::Heads::reduction_words))]
+fn write_reduction(output: &mut Text, spec: &Spec) -> Result<(), AllocError>
+    ensures { OnOk result (output.new ≡ output.old ++ reduction_words spec.now) }
+{
+    write_counted(output, spec.n() as u64, b" process", b" processes")?;
+    write_own(output, spec)?;
+    write_rounds(output, spec.rounds())
+}
+
+#[tactic(auto, unfolding(crate::specs::Heads::own_words))]
+fn write_own(output: &mut Text, spec: &Spec) -> Result<(), AllocError>
+    ensures { OnOk result (output.new ≡ output.old ++ own_words spec.now.simulators spec.now.own) }
+{
+    output.put(b", ")?;
+    write_own_count(output, spec.m())?;
+    write_own_inputs(output, spec)
+}
+
+#[tactic(auto, unfolding(crate::specs::Heads::own_count))]
+fn write_own_count(output: &mut Text, count: usize) -> Result<(), AllocError>
+    ensures { OnOk result (output.new ≡ output.old ++ own_count count) }
+{
+    write_counted(
+        output,
+        count as u64,
+        b" simulator with input",
+        b" simulators with inputs",
+    )
+}
+
+#[tactic(auto, unfolding(crate::specs::Heads::inputs_words))]
+fn write_own_inputs(output: &mut Text, spec: &Spec) -> Result<(), AllocError>
+    ensures { OnOk result (output.new ≡ output.old ++ inputs_words spec.now.own) }
+{
+    let _ = spec.shape(); // for the proof: there are no more own inputs than simulators
+    for simulator in 0..spec.m() {
+        write_own_input(output, spec.own(simulator))?;
+    }
+    Ok(())
+}
+
+fn write_own_input(output: &mut Text, own: Option<u32>) -> Result<(), AllocError>
+    ensures { OnOk result (output.new ≡ output.old ++ own_input own) }
+{
+    match own {
+        None => Ok(()),
+        Some(own) => output.put_number(u64::from(own)),
+    }
 }

@@ -2,7 +2,7 @@
 ghost use Rattle.std.specs.Prelude.{◌≡◌, ◌++◌, ◌*◌, ◌+◌, ◌≤◌, [], IfOk, OnOk, codes, length, if◌then◌else◌};
 ghost use Rattle.std.specs.List.{list_any};
 ghost use Rattle.run_columns.specs.declared.mark.StepKind.TheVariants.{Propose};
-ghost use Rattle.run_picture.specs.Legends.{kinds_in, dropped_note, has_letter, has_letters, has_word, has_words, legend_entry, legend_from, legend_shapes, note, notes, proposals_note, shows_kind, words_note};
+ghost use Rattle.run_picture.specs.Legends.{kinds_in, both_note, dropped_note, has_inputs, has_letter, has_letters, has_word, has_words, inputs_note, legend_entry, legend_from, legend_shapes, note, notes, proposals_note, proposals_notes, shows_input, shows_kind, snapshots_note, words_note};
 
 use crate::picture::Style;
 use picture_shapes::{Colour, Point, Sheet};
@@ -106,20 +106,65 @@ fn add_entry(sheet: &mut Sheet, index: u64, kind: StepKind) -> Result<(), AllocE
 fn add_notes(sheet: &mut Sheet, style: Style, panels: &[Panel]) -> Result<(), AllocError>
     ensures { OnOk result (sheet.new ≡ sheet.old ++ notes style panels.now) }
 {
-    add_proposals_note(sheet, is_in(style, StepKind::Propose, panels))?;
+    add_proposals_notes(
+        sheet,
+        is_in(style, StepKind::Propose, panels),
+        have_inputs(style, panels),
+    )?;
     add_words_note(sheet, have_words(style, panels))
 }
 
-fn add_proposals_note(sheet: &mut Sheet, is_wanted: bool) -> Result<(), AllocError>
-    ensures { OnOk result (sheet.new ≡ sheet.old ++ (if is_wanted then note 72 proposals_note ++ note 88 dropped_note else [])) }
+/// Explains proposals, if there are some: those of snapshots, and of inputs.
+fn add_proposals_notes(sheet: &mut Sheet, snapshots: bool, inputs: bool) -> Result<(), AllocError>
+    ensures { OnOk result (sheet.new ≡ sheet.old ++ proposals_notes snapshots inputs) }
 {
-    if !is_wanted {
-        return Ok(());
+    match (snapshots, inputs) {
+        (false, false) => Ok(()),
+        _ => add_two_notes(sheet, proposals_note(snapshots, inputs)),
     }
-    let chosen = b"below V: how many writes of each process it proposes; framed: chosen";
-    add_note(sheet, 72, chosen)?;
-    let dropped = b"struck through: withdrawn, or another was chosen";
-    add_note(sheet, 88, dropped)
+}
+
+/// Says what is below the squares, and which of it is struck through.
+fn add_two_notes(sheet: &mut Sheet, below: &[u8]) -> Result<(), AllocError>
+    ensures { OnOk result (sheet.new ≡ sheet.old ++ (note 72 below.now ++ note 88 dropped_note)) }
+{
+    add_note(sheet, 72, below)?;
+    add_note(sheet, 88, dropped_note())
+}
+
+fn dropped_note() -> &'static [u8]
+    ensures { result.now ≡ dropped_note }
+{
+    b"struck through: withdrawn, or another was chosen"
+}
+
+/// What is below the squares.
+fn proposals_note(snapshots: bool, inputs: bool) -> &'static [u8]
+    ensures { result.now ≡ proposals_note snapshots inputs }
+{
+    match (snapshots, inputs) {
+        (true, true) => both_note(),
+        (true, false) => snapshots_note(),
+        (false, _) => inputs_note(),
+    }
+}
+
+fn both_note() -> &'static [u8]
+    ensures { result.now ≡ both_note }
+{
+    b"proposed below V: how many writes of each process; below W: an input; framed: chosen"
+}
+
+fn snapshots_note() -> &'static [u8]
+    ensures { result.now ≡ snapshots_note }
+{
+    b"below V: how many writes of each process it proposes; framed: chosen"
+}
+
+fn inputs_note() -> &'static [u8]
+    ensures { result.now ≡ inputs_note }
+{
+    b"below W in round 0: the input that it proposes; framed: chosen"
 }
 
 fn add_words_note(sheet: &mut Sheet, is_wanted: bool) -> Result<(), AllocError>
@@ -164,6 +209,35 @@ fn has_word(mark: Mark) -> bool
 {
     match mark {
         Mark::Step(step) => step.word.is_some(),
+        Mark::Crash { .. } => false,
+    }
+}
+
+/// Whether inputs are proposed in the pictures of these rooms.
+fn have_inputs(style: Style, panels: &[Panel]) -> bool
+    ensures { result ≡ list_any (has_inputs style) panels.now }
+{
+    panels.iter().any(|panel| has_inputs(style, panel))
+}
+
+fn has_inputs(style: Style, panel: &Panel) -> bool
+    ensures { result ≡ has_inputs style panel.now }
+{
+    has_letters(style, panel) && has_input_among(panel.marks())
+}
+
+fn has_input_among(marks: &[Mark]) -> bool
+    ensures { result ≡ list_any shows_input marks.now }
+{
+    marks.iter().any(|mark| shows_input(*mark))
+}
+
+/// Whether this is a step that proposes an input.
+fn shows_input(mark: Mark) -> bool
+    ensures { result ≡ shows_input mark }
+{
+    match mark {
+        Mark::Step(step) => step.proposes_input(),
         Mark::Crash { .. } => false,
     }
 }

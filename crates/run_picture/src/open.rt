@@ -1,4 +1,4 @@
-//! The proposals that may still be chosen, in the lane of the process whose snapshot they are.
+//! The proposals that may still be chosen, in the lane of the process whose snapshot or input they are.
 ghost use Rattle.std.specs.Prelude.{◌≡◌, ◌++◌, IfOk, OnOk};
 ghost use Rattle.simulator_lanes.specs.Panels.{events_in};
 ghost use Rattle.run_picture.specs.Opens.{choice_words, chosen_words, open_label, open_proposals, open_shapes, open_words, owner_words, proposal_if, shapes_of};
@@ -6,10 +6,12 @@ ghost use Rattle.run_picture.specs.Opens.{choice_words, chosen_words, open_label
 use io_text::Text;
 use picture_shapes::{Colour, Frame, Point, Sheet, write_decimal};
 use run_columns::Agreement;
-use simulator_lanes::{LEFT, Panel, SMALL, clipped, counts_of, write_proposer, write_simulator};
+use simulator_lanes::{
+    LEFT, Panel, SMALL, clipped, proposal_words, write_proposer, write_simulator,
+};
 use std::alloc::{AllocError, Global};
 
-/// Writes which proposals may still be chosen for the next snapshot of a process, if some may.
+/// Writes which proposals may still be chosen for a process, in the agreement that it needs next, if some may.
 pub(crate) fn add_open(
     sheet: &mut Sheet,
     y: u64,
@@ -18,7 +20,7 @@ pub(crate) fn add_open(
 ) -> Result<(), AllocError>
     ensures { OnOk result (sheet.new ≡ sheet.old ++ open_shapes y panel.now process) }
 {
-    let agreement = Agreement::next(process, panel.events());
+    let agreement = Agreement::next(process, panel.marks(), panel.events());
     let choice = agreement.choice(panel.marks());
     let proposals = open_proposals(sheet.alloc(), panel, agreement)?;
     add_open_words(sheet, y, agreement, choice, proposals.as_bytes())
@@ -119,8 +121,8 @@ fn write_if_open(
     if !agreement.is_open(simulator, panel.marks(), panel.events()) {
         return Ok(());
     }
-    let counts = counts_of(alloc, panel, agreement, simulator)?;
+    let words = proposal_words(alloc, panel, agreement, simulator)?;
     output.put(b"; ")?;
     write_proposer(output, simulator)?;
-    output.put(counts.as_bytes())
+    output.put(words.as_bytes())
 }

@@ -3,7 +3,7 @@ use Rattle.std.specs.Prelude.{◌≡◌, ◌↔◌, ℕ, ◌+◌, Bool, true, no
 use Rattle.std.specs.List.{count_by, find}
 use Rattle.protocol_lang.specs.Trees.{Tree}
 use Rattle.room_spec.specs.Rooms.{RoomSpec}
-use Rattle.transcript.specs.Runs.{IsRun}
+use Rattle.ws_history.specs.Inputs.{IsRoomRun}
 use Rattle.transcript.specs.declared.event.Event.{Event}
 use Rattle.room_core.specs.Calls.{RoomState}
 use Rattle.room_core.specs.Fields.{Fields}
@@ -32,7 +32,7 @@ pub record IsJudgedBy (lines : List Tree) (spec : RoomSpec) (plan : Plan) (numbe
   pub settled : IsSettledFrom spec plan.crashes (random_of plan.seed number) run.schedule room
   pub events : List Event
   pub history : (fields : Fields) → AreFieldsOf room fields → events ≡ history_of room.spec fields
-  pub is_run : IsRun room.spec events
+  pub is_run : IsRoomRun room.spec events
   pub kept_is : (run.kept ≡ true) ↔ KeepsDecisions lines room.spec events
 
 -- ---- all schedules of a plan

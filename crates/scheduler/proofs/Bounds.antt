@@ -1,7 +1,8 @@
 -- A drive: turns one after the other, and how many turns and steps they come to.
 use Rattle.std.proofs.Common.{◌≡◌, ℕ, suc, ◌+◌, ◌*◌, ◌<◌, ◌≤◌, List, [], ◌∷◌, Option, Some, None, refl, sym, ap, ◌∙◌, subst, arith}
 use Rattle.room_spec.specs.Rooms.{RoomSpec, processes}
-use Rattle.simulator.specs.Bounds.{answered_all, IsReadyThroughout}
+use Rattle.room_spec.specs.Sizes.{sizes_in}
+use Rattle.simulator.specs.Bounds.{answered_all, agreement_rounds, IsReadyThroughout}
 use Rattle.simulator.specs.Minds.{MindState}
 use Rattle.simulator.specs.Sweeps.{SweepState}
 use Rattle.simulator.proofs.CallerLemmas.{turns_bounded}
@@ -26,7 +27,7 @@ end_mind fuse start stop new drives =
     ap (λ (n : SimulatorData). n.sweep.mind) drives.is ∙ same.2 ∙ ap (λ (sweep : SweepState). sweep.mind) (sweep_after_steps start drives.answers)
 
 abbrev pub most_turns : RoomSpec → ℕ
-most_turns spec = (processes spec * spec.rounds + 1) * processes spec
+most_turns spec = (processes spec * agreement_rounds (sizes_in spec) + 1) * processes spec
 
 pub drive_turns : (fuse : Option ℕ) (start : SimulatorData) (stop : Stop) (new : SimulatorData) → IsSweepOf start.room.spec start.number start.sweep → Drives fuse start stop new → new.sweep.mind.turns ≤ start.sweep.mind.turns + most_turns start.room.spec
 drive_turns fuse start stop new is drives =

@@ -1,6 +1,8 @@
 //! A simulator that takes step after step.
 ghost use Rattle.std.specs.Prelude.{◌≡◌, ◌+◌, ◌*◌, ◌<◌, ◌≤◌, IfNone, IfSome};
 ghost use Rattle.room_spec.specs.Rooms.{processes};
+ghost use Rattle.room_spec.specs.Sizes.{sizes_in};
+ghost use Rattle.simulator.specs.Bounds.{agreement_rounds};
 ghost use Rattle.simulator.specs.Ranges.{turn_limit};
 ghost use Rattle.room_core.specs.Calls.{step_bound};
 ghost use Rattle.ruled_room.specs.Parts.{IsSweepOf};
@@ -59,11 +61,12 @@ pub fn drive(simulator: &mut Simulator, room: &RuledRoom, fuse: &Fuse, gate: &im
     ensures stop { HasStopped fuse.now room.now.spec result simulator.new.sweep }
     ensures fuse { IsWithinFuse fuse.now simulator.old.sweep.mind.steps → IsWithinFuse fuse.now simulator.new.sweep.mind.steps }
     ensures same { (simulator.new.room ≡ simulator.old.room) × (simulator.new.number ≡ simulator.old.number) }
-    // Whatever others do, it begins at most `(n * rounds + 1) * n` turns, each of no more steps than a turn may take.
+    // Whatever others do, it begins at most `(n * rounds + 1) * n` turns, each of no more steps than a turn may take. In a reduction the
+    // agreement on a process's input is one round more.
     ensures turns { simulator.new.sweep.mind.turns ≤
-        simulator.old.sweep.mind.turns + (processes room.now.spec * room.now.spec.rounds + 1) * processes room.now.spec }
+        simulator.old.sweep.mind.turns + (processes room.now.spec * agreement_rounds (sizes_in room.now.spec) + 1) * processes room.now.spec }
     ensures bound { simulator.new.sweep.mind.steps ≤
-        simulator.old.sweep.mind.steps + (processes room.now.spec * room.now.spec.rounds + 1) * processes room.now.spec * turn_limit room.now.spec }
+        simulator.old.sweep.mind.steps + (processes room.now.spec * agreement_rounds (sizes_in room.now.spec) + 1) * processes room.now.spec * turn_limit room.now.spec }
 {
     let worker = simulator.number() as u8;
     let mut visit: u64 = 0;

@@ -1,22 +1,19 @@
 -- A script that is followed, thing by thing.
-use Rattle.std.proofs.Common.{◌≡◌, ◌∙◌, ℕ, List, [], ◌∷◌, ◌++◌, Option, Some, None, refl, sym, ap, subst}
+use Rattle.std.proofs.Common.{◌≡◌, ◌∙◌, ℕ, List, [], ◌∷◌, ◌++◌, refl, sym, ap, subst}
 use Rattle.std.specs.List.{flat_map}
 use Rattle.std.proofs.lemmas.Grind.{flat_map-append}
 use Rattle.std.proofs.lemmas.List.{append-nil, append_assoc}
-use Rattle.room_spec.specs.Rooms.{RoomSpec}
 use Rattle.service_core.specs.declared.command.Command.{Command}
-use Rattle.service_core.specs.declared.command.Command.TheVariants as commands
 use Rattle.service_core.specs.declared.reply.Reply.{Reply}
-use Rattle.service_core.specs.Replies.{name_in}
-use Rattle.service_core.specs.Rooms.{Applies, Entries}
+use Rattle.service_core.specs.Rooms.{Entries}
 use Rattle.service_core.proofs.CallerLemmas.{Ran, begins, goes_on}
+use Rattle.room_files.specs.declared.kinds.Kinds.{Kinds}
 use Rattle.room_files.specs.declared.outcome.Outcome.{Outcome}
 use Rattle.std.specs.Prelude.{Result}
 use Rattle.std.specs.declared.alloc.AllocError.{AllocError}
 use Rattle.script_play.specs.Play.{Done, Faulty, HasRun, IsPlayFor, Replied, Unread, commands_in, commands_of, done_text, replies_in, reply_of}
 use Rattle.script_play.specs.ReplyTexts.{sim_in}
-use Rattle.script_play.specs.Following.{AreFollowed, IsAsked, IsFor, IsPlay, Leaves, sim_for}
-use Rattle.script_play.specs.declared.following.Asked.{Asked}
+use Rattle.script_play.specs.Following.{AreFollowed, IsFor, IsPlay, Leaves, sim_for}
 use Rattle.script_play.specs.declared.following.Order.{Order}
 use Rattle.script_play.specs.declared.following.Order.TheVariants as orders
 
@@ -102,6 +99,6 @@ texts_of output first all rooms last none is =
     (λ all rooms f done after g so_far leaves text. text ∙ ap (λ (t : List ℕ). t ++ done_text done) so_far ∙ ap (λ (t : List ℕ). flat_map done_text all ++ t) (sym (append-nil (done_text done))) ∙ sym (flat_map-append done_text all (done ∷ [])))
     [] [] first all rooms last none is
 
-pub play_text : {F : Type 0} (output : F → List ℕ) (input : List ℕ) (first : F) (rooms : Entries) (last : F) (ending : Result Outcome AllocError) → output first ≡ [] → IsPlay (λ old before done after new. output new ≡ output old ++ done_text done) input first rooms last ending
-    → IsPlayFor input ending (output last)
-play_text output input first rooms last ending none is = (is.entries, is.asked, record { all = is.all; each_entry = is.each_entry; replies = is.replies; output_is = texts_of output first is.all rooms last none is.followed; ending_is = is.ending_is })
+pub play_text : {F : Type 0} (kinds : Kinds) (output : F → List ℕ) (input : List ℕ) (first : F) (rooms : Entries) (last : F) (ending : Result Outcome AllocError) → output first ≡ [] → IsPlay (λ old before done after new. output new ≡ output old ++ done_text done) kinds input first rooms last ending
+    → IsPlayFor kinds input ending (output last)
+play_text kinds output input first rooms last ending none is = (is.entries, is.asked, record { all = is.all; each_entry = is.each_entry; replies = is.replies; output_is = texts_of output first is.all rooms last none is.followed; ending_is = is.ending_is })

@@ -16,6 +16,7 @@ use Rattle.service_core.specs.Runs.{is_want}
 use Rattle.room_files.specs.Blocks.{refused_line}
 use Rattle.room_files.specs.declared.outcome.Outcome.{Outcome}
 use Rattle.script_play.specs.Script.{Entry, Ask, asked, steps_for}
+use Rattle.room_files.specs.declared.kinds.Kinds.{Kinds}
 use Rattle.script_play.specs.Play.{AreDone, Done, IsDone, ending_if, ending_of, ending_with, is_memory_refusal, ran_out_of_memory, is_refusal, is_refused, refusal_in}
 
 -- ---- one entry more
@@ -65,11 +66,11 @@ ends_by reply refusal ending is = ap (λ (r : Option Refusal). ending_with (is_m
     by (Refused NoSimulator) = refl
     by (Refused OutOfMemory) = refl
 
-pub done-push : (entries : List Entry) (all : List Done) (entry : Entry) (done : Done) → AreDone entries all → IsDone entry done → AreDone (entries ++ entry ∷ []) (all ++ done ∷ [])
-done-push [] [] entry done so_far is = (is, tt)
-done-push [] (d ∷ all) entry done so_far is = absurd so_far
-done-push (e ∷ entries) [] entry done so_far is = absurd so_far
-done-push (e ∷ entries) (d ∷ all) entry done so_far is = (so_far.0, done-push entries all entry done so_far.1 is)
+pub done-push : (kinds : Kinds) (entries : List Entry) (all : List Done) (entry : Entry) (done : Done) → AreDone kinds entries all → IsDone kinds entry done → AreDone kinds (entries ++ entry ∷ []) (all ++ done ∷ [])
+done-push kinds [] [] entry done so_far is = (is, tt)
+done-push kinds [] (d ∷ all) entry done so_far is = absurd so_far
+done-push kinds (e ∷ entries) [] entry done so_far is = absurd so_far
+done-push kinds (e ∷ entries) (d ∷ all) entry done so_far is = (so_far.0, done-push kinds entries all entry done so_far.1 is)
 
 pub where_ok : {X E : Type 0} (r : Result X E) (P Q : Type 0) → (P → Q) → OnOk r P → OnOk r Q
 where_ok (Ok x) P Q step holds = step holds

@@ -9,6 +9,7 @@ use Rattle.service_core.specs.declared.command.Command.TheVariants as commands
 use Rattle.service_core.specs.declared.reply.Reply.{Reply}
 use Rattle.service_core.specs.Replies.{name_in}
 use Rattle.service_core.specs.Rooms.{Applies, Entries, room_at, steps_of}
+use Rattle.room_files.specs.declared.kinds.Kinds.{Kinds}
 use Rattle.room_files.specs.declared.outcome.Outcome.{Outcome}
 use Rattle.script_play.specs.Script.{Entry, script_says}
 use Rattle.script_play.specs.Play.{AreDone, AreReplies, Done, Faulty, Replied, Unread, commands_of, ending_of, ending_with, ran_out_of_memory, is_refused, replies_in}
@@ -31,12 +32,12 @@ AreFollowed follows rooms first [] after last = (rooms ≡ after) × (first ≡ 
 AreFollowed follows rooms first (done ∷ all) after last =
     (next : Entries) × (middle : _) × Leaves rooms done next × follows first rooms done next middle × AreFollowed follows next middle all after last
 
--- What comes of a whole script: of each of its entries, of the rooms, of the one that follows it, and at the end.
-pub record IsPlay {F : Type 0} (follows : F → Entries → Done → Entries → F → Type 0) (input : List ℕ) (first : F) (rooms : Entries) (last : F) (ending : Result Outcome AllocError) : Type 0 where
+-- What comes of a whole script, where blocks of these kinds are read: of each of its entries, of the rooms, of the one that follows it, and at the end.
+pub record IsPlay {F : Type 0} (follows : F → Entries → Done → Entries → F → Type 0) (kinds : Kinds) (input : List ℕ) (first : F) (rooms : Entries) (last : F) (ending : Result Outcome AllocError) : Type 0 where
   pub entries : List Entry
   pub asked : script_says input ≡ Ok entries
   pub all : List Done
-  pub each_entry : AreDone entries all
+  pub each_entry : AreDone kinds entries all
   pub replies : AreReplies (commands_of all) (replies_in all)
   pub followed : AreFollowed follows [] first all rooms last
   pub ending_is : ending ≡ ending_of all

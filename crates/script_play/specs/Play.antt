@@ -1,9 +1,8 @@
 -- The results of a script.
-use Rattle.std.specs.Prelude.{◌≡◌, ⊤, ℕ, Bool, true, false, not, List, [], ◌∷◌, ◌++◌, length, Option, Some, None, Result, Ok, Err, alloc_error, if◌then◌else◌, codes}
+use Rattle.std.specs.Prelude.{◌≡◌, ⊤, ℕ, Bool, true, false, not, List, [], ◌∷◌, length, Option, Some, None, Result, Ok, Err, alloc_error, if◌then◌else◌, codes}
 use Rattle.std.specs.declared.alloc.AllocError.{AllocError}
 use Rattle.std.specs.List.{flat_map, list_any}
 use Rattle.room_spec.specs.Rooms.{RoomSpec}
-use Rattle.room_spec.specs.Blocks.{LacksMemory, block_in}
 use Rattle.room_spec.specs.declared.fault.SpecFault.{SpecFault}
 use Rattle.service_core.specs.declared.command.Command.{Command}
 use Rattle.service_core.specs.declared.command.Command.TheVariants.{Begin}
@@ -12,9 +11,12 @@ use Rattle.service_core.specs.declared.reply.Reply.TheVariants.{Refused}
 use Rattle.service_core.specs.declared.reply.Refusal.{Refusal}
 use Rattle.service_core.specs.declared.reply.Refusal.TheVariants.{NoRoom, NameTaken, NoSimulator, OutOfMemory}
 use Rattle.service_core.specs.Replies.{part, replies_from, room_after_all}
-use Rattle.service_core.specs.Rooms.{Applies, Entries, IsStateOf, room_at}
+use Rattle.service_core.specs.Rooms.{Entries, IsStateOf, room_at}
 use Rattle.service_core.specs.Runs.{AreTrueReports, AreWants, granted, is_want, replies_of, without_wants}
 use Rattle.room_files.specs.Blocks.{fault_text, refused_line}
+use Rattle.room_files.specs.Kinds.{LacksMemoryOf, block_of}
+use Rattle.room_files.specs.declared.kinds.Kinds.{Kinds}
+use Rattle.room_files.specs.declared.kinds.Kinds.TheVariants.{All}
 use Rattle.room_files.specs.Verdicts.{outcome_if}
 use Rattle.script_play.specs.Script.{Entry, Ask, Open, script_says}
 use Rattle.room_files.specs.declared.outcome.Outcome.{Outcome}
@@ -40,20 +42,21 @@ pub data Done : Type 0 where
   Faulty : ℕ → SpecFault → Done
   Unread : ℕ → Done
 
-abbrev pub IsDone : Entry → Done → Type 0
-IsDone (Ask command) (Replied asked reply) = asked ≡ command
-IsDone (Ask command) (Faulty line fault) = ⊥
-IsDone (Ask command) (Unread line) = ⊥
-IsDone (Open number block) (Replied asked reply) = (spec : RoomSpec) × (len : ℕ) × (block_in block ≡ Ok (spec, len)) × (asked ≡ Begin spec)
-IsDone (Open number block) (Faulty line fault) = (line ≡ number) × (block_in block ≡ Err fault)
-IsDone (Open number block) (Unread line) = (line ≡ number) × LacksMemory block
+-- where blocks of these kinds are read
+abbrev pub IsDone : Kinds → Entry → Done → Type 0
+IsDone kinds (Ask command) (Replied asked reply) = asked ≡ command
+IsDone kinds (Ask command) (Faulty line fault) = ⊥
+IsDone kinds (Ask command) (Unread line) = ⊥
+IsDone kinds (Open number block) (Replied asked reply) = (spec : RoomSpec) × (len : ℕ) × (block_of kinds block ≡ Ok (spec, len)) × (asked ≡ Begin spec)
+IsDone kinds (Open number block) (Faulty line fault) = (line ≡ number) × (block_of kinds block ≡ Err fault)
+IsDone kinds (Open number block) (Unread line) = (line ≡ number) × LacksMemoryOf kinds block
 
 -- what came of each entry, in order
-abbrev pub AreDone : List Entry → List Done → Type 0
-AreDone [] [] = ⊤
-AreDone (entry ∷ entries) (done ∷ all) = IsDone entry done × AreDone entries all
-AreDone [] (done ∷ all) = ⊥
-AreDone (entry ∷ entries) [] = ⊥
+abbrev pub AreDone : Kinds → List Entry → List Done → Type 0
+AreDone kinds [] [] = ⊤
+AreDone kinds (entry ∷ entries) (done ∷ all) = IsDone kinds entry done × AreDone kinds entries all
+AreDone kinds [] (done ∷ all) = ⊥
+AreDone kinds (entry ∷ entries) [] = ⊥
 
 abbrev pub commands_in : Done → List Command
 commands_in (Replied command reply) = command ∷ []
@@ -101,22 +104,22 @@ abbrev pub ending_of : List Done → Result Outcome AllocError
 ending_of all = ending_if (list_any ran_out_of_memory all) (list_any is_refused all)
 
 -- The text that a script's entries lead to, line by line, and the end that goes with it.
-pub record IsPlayText (entries : List Entry) (ending : Result Outcome AllocError) (output : List ℕ) : Type 0 where
+pub record IsPlayText (kinds : Kinds) (entries : List Entry) (ending : Result Outcome AllocError) (output : List ℕ) : Type 0 where
   pub all : List Done
-  pub each_entry : AreDone entries all
+  pub each_entry : AreDone kinds entries all
   pub replies : AreReplies (commands_of all) (replies_in all)
   pub output_is : output ≡ flat_map done_text all
   pub ending_is : ending ≡ ending_of all
 
 -- the text for an input that has no fault
-abbrev pub IsPlayFor : List ℕ → Result Outcome AllocError → List ℕ → Type 0
-IsPlayFor input ending output = (entries : List Entry) × (script_says input ≡ Ok entries) × IsPlayText entries ending output
+abbrev pub IsPlayFor : Kinds → List ℕ → Result Outcome AllocError → List ℕ → Type 0
+IsPlayFor kinds input ending output = (entries : List Entry) × (script_says input ≡ Ok entries) × IsPlayText kinds entries ending output
 
 -- ---- the one that executes the commands
 
 -- these bytes are a block that says this room, and nothing more
 abbrev pub IsBlockOf : RoomSpec → List ℕ → Type 0
-IsBlockOf spec block = block_in block ≡ Ok (spec, length block)
+IsBlockOf spec block = block_of All block ≡ Ok (spec, length block)
 
 abbrev pub OpensNone : Command → Type 0
 OpensNone (Begin spec) = ⊥

@@ -17,7 +17,7 @@ use crate::following::{Asked, Follows, Order, order_of};
 use crate::reply::refusal_in;
 use crate::steps::read_steps;
 use room_core::Observer;
-use room_files::{Outcome, read_room};
+use room_files::{Kinds, Outcome, read_room};
 use room_spec::{Name, Spec, SpecFault};
 use service_core::{Command, Refusal, Reply, Service};
 use std::alloc::{AllocError, Global};
@@ -49,17 +49,18 @@ impl<F: Follows> Player<F> {
     pub(crate) fn take(
         &mut self,
         alloc: Global,
+        kinds: Kinds,
         number: u64,
         entry: &Entry<'_>,
     ) -> Result<bool, AllocError>
         requires { number + 1 < 2 ^ 64 }
         ensures good { IfOk result (λ good. good ≡ is_asking entry.now) }
-        ensures plays { OnOk result ((asked : EntryData) → asks_at number entry.now ≡ Ok asked → (done : Done) × IsDone asked done ×
+        ensures plays { OnOk result ((asked : EntryData) → asks_at number entry.now ≡ Ok asked → (done : Done) × IsDone kinds asked done ×
             GoesOn F.follows self.old.service self.old.follower self.old.ending done self.new.service self.new.follower self.new.ending) }
     {
         let line = match entry {
             Entry::Block(block) => {
-                self.open(alloc, number + 1, block)?;
+                self.open(alloc, kinds, number + 1, block)?;
                 return Ok(true);
             }
             Entry::Line(line) => line,
@@ -87,11 +88,17 @@ impl<F: Follows> Player<F> {
     /// Opens the room of a block whose first line has this number.
     #[tactic(auto, using(crate::proofs::OwnBlocks::block_within, crate::proofs::OwnBlocks::own_block))]
     #[inline(never)]
-    fn open(&mut self, alloc: Global, number: u64, block: &[u8]) -> Result<(), AllocError>
-        ensures { OnOk result ((done : Done) × IsDone (Open number block.now) done ×
+    fn open(
+        &mut self,
+        alloc: Global,
+        kinds: Kinds,
+        number: u64,
+        block: &[u8],
+    ) -> Result<(), AllocError>
+        ensures { OnOk result ((done : Done) × IsDone kinds (Open number block.now) done ×
             GoesOn F.follows self.old.service self.old.follower self.old.ending done self.new.service self.new.follower self.new.ending) }
     {
-        match read_room(alloc, block) {
+        match read_room(alloc, kinds, block) {
             Ok(Ok((spec, len))) => self.begin(alloc, &block[..len], spec),
             Ok(Err(fault)) => self.refuse(number, fault),
             Err(AllocError) => self.out_of_memory(number),

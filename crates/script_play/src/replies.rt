@@ -1,6 +1,7 @@
 //! The replies to a script, as text.
 ghost use Rattle.std.specs.Prelude.{◌≡◌, ◌≤◌, ◌++◌, [], IsOk, IfOk, IfErr, OnOk, length};
 ghost use Rattle.room_files.specs.Blocks.{IsFaultOr};
+ghost use Rattle.room_files.specs.declared.kinds.Kinds.TheVariants.{Ordinary};
 ghost use Rattle.script_play.specs.Script.{script_says};
 ghost use Rattle.io_text.specs.Reading.{most_bytes};
 ghost use Rattle.script_play.specs.Play.{IsPlayFor};
@@ -13,7 +14,7 @@ use crate::script::{Played, play_script};
 use io_text::Text;
 use report_text::{EventLines, write_lines};
 use room_core::{StepReply, Unobserved};
-use room_files::{InputFault, Outcome, write_refused, write_refused_code};
+use room_files::{InputFault, Kinds, Outcome, write_refused, write_refused_code};
 use room_spec::{Name, Spec, SpecFault};
 use service_core::{Refusal, Reply, Service};
 use std::alloc::{AllocError, Global};
@@ -26,14 +27,14 @@ pub struct PlayText {
     pub ending: Result<Outcome, AllocError>,
 }
 
-/// Judges a script, and does what it asks for if it has no fault.
+/// Judges a script of ordinary rooms, and does what it asks for if it has no fault.
 ///
 /// # Errors
 ///
 /// The script's first malformed line; or an allocation that failed for the text.
 pub fn play(alloc: Global, script: &[u8]) -> Result<PlayText, InputFault>
     requires { length script.now ≤ most_bytes }
-    ensures text { IfOk result (λ played. IsPlayFor script.now played.ending played.output) }
+    ensures text { IfOk result (λ played. IsPlayFor Ordinary script.now played.ending played.output) }
     // An allocation that fails hides no malformed line.
     ensures err { IfErr result (IsFaultOr (IsOk (script_says script.now)) (script_says script.now)) }
 {
@@ -41,7 +42,7 @@ pub fn play(alloc: Global, script: &[u8]) -> Result<PlayText, InputFault>
         follower,
         ending,
         ..
-    } = play_script(alloc, Replies::new(alloc), script)?;
+    } = play_script(alloc, Kinds::Ordinary, Replies::new(alloc), script)?;
     Ok(PlayText {
         output: follower.output,
         ending,

@@ -10,7 +10,7 @@ ghost use Rattle.script_play.specs.Following.{IsPlay};
 use crate::entries::{Entry, next_entry, read_command};
 use crate::following::Follows;
 use crate::player::Player;
-use room_files::{InputFault, Outcome, TextFault};
+use room_files::{InputFault, Kinds, Outcome, TextFault};
 use service_core::Service;
 use std::alloc::{AllocError, Global};
 
@@ -23,18 +23,19 @@ pub struct Played<F: Follows> {
     pub ending: Result<Outcome, AllocError>,
 }
 
-/// Judges a script, and does what it asks for if it has no fault. This one follows it.
+/// Judges a script, whose blocks may be of these kinds, and does what it asks for if it has no fault. This one follows it.
 ///
 /// # Errors
 ///
 /// The script's first malformed line; or an allocation that failed for what is kept of it.
 pub fn play_script<F: Follows>(
     alloc: Global,
+    kinds: Kinds,
     follower: F,
     script: &[u8],
 ) -> Result<Played<F>, InputFault>
     requires { length script.now ≤ most_bytes }
-    ensures played { IfOk result (λ played. IsPlay F.follows script.now follower played.service played.follower played.ending) }
+    ensures played { IfOk result (λ played. IsPlay F.follows kinds script.now follower played.service played.follower played.ending) }
     // An allocation that fails hides no malformed line.
     ensures err { IfErr result (IsFaultOr (IsOk (script_says script.now)) (script_says script.now)) }
 {
@@ -42,7 +43,7 @@ pub fn play_script<F: Follows>(
     let mut rest = script;
     let mut number = 1;
     while let Some((entry, later)) = next_entry(rest) {
-        let Ok(good) = player.take(alloc, number, &entry) else {
+        let Ok(good) = player.take(alloc, kinds, number, &entry) else {
             return Err(judge_unplayed(rest, number));
         };
         if !good {

@@ -6,7 +6,7 @@ use Rattle.sim_memory.specs.Steps.{merged_of, holder_of, memory_of, place_of, ro
 
 -- two simulators, two processes, three rounds: two bits for each number
 abbrev pair : Sizes
-pair = record { n = 2; m = 2; bits = 2; rounds = 3 }
+pair = record { n = 2; m = 2; bits = 2; rounds = 3; reduction = false }
 
 steps_of_237 : (step_in pair (237 ∷ []) 0 0 ≡ 1) × (step_in pair (237 ∷ []) 0 1 ≡ 3) × (step_in pair (237 ∷ []) 1 0 ≡ 2) × (step_in pair (237 ∷ []) 1 1 ≡ 3)
 steps_of_237 = (refl, refl, refl, refl)
@@ -31,7 +31,7 @@ word_of_237 = refl
 
 -- one round: a bit for each number
 abbrev single : Sizes
-single = record { n = 2; m = 2; bits = 1; rounds = 1 }
+single = record { n = 2; m = 2; bits = 1; rounds = 1; reduction = false }
 
 merged_in_9 : (merged_of 2 (step_in single (9 ∷ [])) 0 ≡ 1) × (merged_of 2 (step_in single (9 ∷ [])) 1 ≡ 1)
 merged_in_9 = (refl, refl)
@@ -48,7 +48,7 @@ none_in_4 = (refl, refl)
 
 -- two rounds: the number 3 of simulator 0 reads as 2, and ties with that of simulator 1
 abbrev double : Sizes
-double = record { n = 2; m = 2; bits = 2; rounds = 2 }
+double = record { n = 2; m = 2; bits = 2; rounds = 2; reduction = false }
 
 clamped_in_35 : (step_in double (35 ∷ []) 0 0 ≡ 2) × (step_in double (35 ∷ []) 1 0 ≡ 2) × (holder_of 2 (step_in double (35 ∷ [])) 0 ≡ 0)
 clamped_in_35 = (refl, refl, refl)
@@ -79,7 +79,7 @@ last_write_in_16 = (refl, refl)
 
 -- eight simulators, two processes, 15 rounds: sixteen numbers of four bits, from 15 down to 0
 abbrev many : Sizes
-many = record { n = 2; m = 8; bits = 4; rounds = 15 }
+many = record { n = 2; m = 8; bits = 4; rounds = 15; reduction = false }
 
 place_in_many : place_of many 7 1 ≡ 60
 place_in_many = refl
@@ -95,7 +95,7 @@ holders_in_many = (refl, refl, refl)
 
 -- two simulators, nine processes, 15 rounds: two words, the second with two numbers
 abbrev big : Sizes
-big = record { n = 9; m = 2; bits = 4; rounds = 15 }
+big = record { n = 9; m = 2; bits = 4; rounds = 15; reduction = false }
 
 places_in_big : (word_of big 1 8 ≡ 1) × (place_of big 1 8 ≡ 4) × (word_of big 1 6 ≡ 0) × (place_of big 1 6 ≡ 60)
 places_in_big = (refl, refl, refl, refl)
@@ -108,7 +108,7 @@ memory_of_big = refl
 
 -- two simulators, eleven processes, seven rounds: 21 numbers of three bits in the first word, whose top bit counts for none
 abbrev three_bits : Sizes
-three_bits = record { n = 11; m = 2; bits = 3; rounds = 7 }
+three_bits = record { n = 11; m = 2; bits = 3; rounds = 7; reduction = false }
 
 places_of_three_bits : (word_of three_bits 1 9 ≡ 0) × (place_of three_bits 1 9 ≡ 60) × (word_of three_bits 1 10 ≡ 1) × (place_of three_bits 1 10 ≡ 0)
 places_of_three_bits = (refl, refl, refl, refl)

@@ -6,7 +6,7 @@ use Rattle.std.specs.Option.{option_eq}
 use Rattle.simulator.specs.declared.goal.Goal.{Goal}
 use Rattle.simulator.specs.declared.goal.Goal.TheVariants as goals
 use Rattle.simulator.specs.declared.line.Line.{Line}
-use Rattle.simulator.specs.declared.line.Line.TheVariants.{Rest, Raise, Snap, Show, Enter, Look, Leave, Ask, GetView, Values, Out}
+use Rattle.simulator.specs.declared.line.Line.TheVariants.{Rest, Raise, Snap, Show, Enter, Look, Leave, Ask, GetInput, GetView, Values, Out}
 use Rattle.simulator.specs.declared.knowledge.Knowledge.{Knowledge}
 use Rattle.simulator.specs.contracts.goal.GoalPartialEq.TheImpl as goal
 use Rattle.simulator.specs.contracts.line.LinePartialEq.TheImpl as line
@@ -19,6 +19,8 @@ same_goal (goals.Write k v) (goals.Write l w) h =
     let values = eqb-true v w parts.1 in
     λ i. goals.Write (rounds i) (values i)
 same_goal (goals.Ask k) (goals.Ask l) h = ap goals.Ask (eqb-true k l h)
+same_goal (goals.Propose v) (goals.Propose w) h = ap goals.Propose (eqb-true v w h)
+same_goal goals.AskInput goals.AskInput h = refl
 same_goal goals.Done goals.Done h = refl
 same_goal goals.Spent goals.Spent h = refl
 same_goal a b h = absurd cc
@@ -33,6 +35,7 @@ same_line Look Look h = refl
 same_line (Leave true) (Leave true) h = refl
 same_line (Leave false) (Leave false) h = refl
 same_line Ask Ask h = refl
+same_line (GetInput a) (GetInput b) h = ap GetInput (eqb-true a b h)
 same_line (GetView a) (GetView b) h = ap GetView (eqb-true a b h)
 same_line Values Values h = refl
 same_line (Out a) (Out b) h = ap Out (eqb-true a b h)
@@ -68,7 +71,8 @@ same_knowledge a b h =
     let before = both (pointwise eqb a.before b.before) _ (same_each eqb eqb-true a.before b.before) collects.1 in
     let snapshot = both (pointwise eqb a.snapshot b.snapshot) _ (same_each eqb eqb-true a.snapshot b.snapshot) before.1 in
     let entries = both (pointwise (option_eq eqb) a.entries.items b.entries.items) _ (same_each (option_eq eqb) same_option a.entries.items b.entries.items) snapshot.1 in
-    let decision = same_option a.decision b.decision entries.1 in
+    let inputs = both (pointwise eqb a.inputs.items b.inputs.items) _ (same_each eqb eqb-true a.inputs.items b.inputs.items) entries.1 in
+    let decision = same_option a.decision b.decision inputs.1 in
     λ i. record {
       number = number.0 i;
       goals = record { items = goals_are.0 i };
@@ -79,5 +83,6 @@ same_knowledge a b h =
       before = before.0 i;
       snapshot = snapshot.0 i;
       entries = record { items = entries.0 i };
+      inputs = record { items = inputs.0 i };
       decision = decision i;
     }

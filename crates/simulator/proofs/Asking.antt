@@ -3,14 +3,14 @@ use Rattle.std.proofs.Common.{◌≡◌, ℕ, zero, suc, ◌+◌, ◌%◌, ◌<�
 use Rattle.std.proofs.lemmas.Bool.{cases_lt}
 use Rattle.std.specs.List.{AllByRecursion, filter, position, position_or_len}
 use Rattle.std.specs.Option.{option_map}
-use Rattle.std.proofs.lemmas.List.{append-nil, take-append-drop, length-append, length-reverse, reverse-append, drop-set-lt, take_more_set, drop_all, drop-drop, drop-append-le, take-append-le, take_all, length-set}
+use Rattle.std.proofs.lemmas.List.{append-nil, take-append-drop, length-append, length-reverse, reverse-append, drop-set-lt, get_or-set_same, take-set-le, take_more_set, drop_all, drop-drop, drop-append-le, take-append-le, take_all, length-set}
 use Rattle.std.proofs.Math.Nat.{mod-eq_of_lt, mod_self}
 use Rattle.std.proofs.Math.Seq.{take-add}
 use Rattle.std.proofs.lemmas.List.Elements.{filter-append}
 use Rattle.std.proofs.lemmas.List.Quantifiers.{position-Some}
 use Rattle.simulator.proofs.Processes.{none_of_position, some_same}
 use Rattle.simulator.specs.declared.goal.Goal.{Goal}
-use Rattle.simulator.specs.declared.goal.Goal.TheVariants.{Write, Ask, Done, Spent}
+use Rattle.simulator.specs.declared.goal.Goal.TheVariants.{Write, Ask, Propose, AskInput, Done, Spent}
 use Rattle.simulator.specs.Minds.{is_unfinished, goal_at, unfinished_in, or_else, next_process}
 use Rattle.simulator.specs.Quiet.{IsAsk, HasNoWrite, unfinished_from, AreAsksAtTheEnd}
 
@@ -59,6 +59,8 @@ none_before [] (suc at) early = refl
 none_before (goal ∷ goals) zero early = refl
 none_before (Write round value ∷ goals) (suc at) early = absurd (omega arith)
 none_before (Ask round ∷ goals) (suc at) early = absurd (omega arith)
+none_before (Propose value ∷ goals) (suc at) early = absurd (omega arith)
+none_before (AskInput ∷ goals) (suc at) early = absurd (omega arith)
 none_before (Done ∷ goals) (suc at) early = none_before goals at (omega arith)
 none_before (Spent ∷ goals) (suc at) early = none_before goals at (omega arith)
 
@@ -159,16 +161,35 @@ ends goals sweep goal below =
     ∙ round_again (set goals sweep goal) (sweep + 1) (omega arith)
     ∙ last_of goals sweep goal below
 
+-- what the end of a turn leaves after which the sweep stays
+pub stays : (goals : List Goal) (sweep : ℕ) (goal : Goal) → sweep < length goals → is_unfinished goal ≡ true → unfinished_from (set goals sweep goal) sweep ≡ goal ∷ filter is_unfinished (others goals sweep)
+stays goals sweep goal below left_too =
+    let own : goal_at (set goals sweep goal) sweep ≡ goal = get_or-set_same goals sweep goal Done below in
+    let same : others (set goals sweep goal) sweep ≡ others goals sweep = ap (λ (l : List Goal). l ++ take sweep (set goals sweep goal)) (drop-set-lt (suc sweep) goals sweep goal (omega arith)) ∙ ap (λ (l : List Goal). drop (suc sweep) goals ++ l) (take-set-le sweep goals sweep goal (omega arith)) in
+    first_of (set goals sweep goal) sweep (omega (arith, below, length-set goals sweep goal)) (ap is_unfinished own ∙ left_too)
+    ∙ ap (λ (g : Goal). g ∷ filter is_unfinished (others (set goals sweep goal) sweep)) own
+    ∙ ap (λ (l : List Goal). goal ∷ filter is_unfinished l) same
+
 -- ---- the quiet count
 
+-- an ask is unfinished
+ask_open : (goal : Goal) → IsAsk goal → filter is_unfinished (goal ∷ []) ≡ goal ∷ []
+ask_open (Write round value) ask = absurd ask
+ask_open (Ask round) ask = refl
+ask_open (Propose value) ask = absurd ask
+ask_open AskInput ask = refl
+ask_open Done ask = absurd ask
+ask_open Spent ask = absurd ask
+
 -- a turn that was quiet
-pub quiet_ends : (goals : List Goal) (sweep round quiet more : ℕ) → sweep < length goals → is_unfinished (goal_at goals sweep) ≡ true → more ≤ quiet + 1
-    → AreAsksAtTheEnd (unfinished_from goals sweep) quiet → AreAsksAtTheEnd (unfinished_from (set goals sweep (Ask round)) ((sweep + 1) % length goals)) more
-quiet_ends goals sweep round quiet more below is less all =
+pub quiet_ends : (goals : List Goal) (sweep : ℕ) (goal : Goal) (quiet more : ℕ) → sweep < length goals → is_unfinished (goal_at goals sweep) ≡ true → more ≤ quiet + 1 → IsAsk goal
+    → AreAsksAtTheEnd (unfinished_from goals sweep) quiet → AreAsksAtTheEnd (unfinished_from (set goals sweep goal) ((sweep + 1) % length goals)) more
+quiet_ends goals sweep goal quiet more below is less ask all =
     let rest = filter is_unfinished (others goals sweep) in
     let before : AreAsksAtTheEnd (goal_at goals sweep ∷ rest) quiet = subst (λ (l : List Goal). AreAsksAtTheEnd l quiet) (first_of goals sweep below is) all in
-    let after : AreAsksAtTheEnd (rest ++ Ask round ∷ []) (quiet + 1) = asked_again (goal_at goals sweep) (Ask round) rest quiet tt before in
-    subst (λ (l : List Goal). AreAsksAtTheEnd l more) (sym (ends goals sweep (Ask round) below)) (fewer_asks (rest ++ Ask round ∷ []) (quiet + 1) more less after)
+    let after : AreAsksAtTheEnd (rest ++ goal ∷ []) (quiet + 1) = asked_again (goal_at goals sweep) goal rest quiet ask before in
+    let comes : filter is_unfinished (goal ∷ []) ≡ goal ∷ [] = ask_open goal ask in
+    subst (λ (l : List Goal). AreAsksAtTheEnd l more) (sym (ends goals sweep goal below ∙ ap (λ (l : List Goal). rest ++ l) comes)) (fewer_asks (rest ++ goal ∷ []) (quiet + 1) more less after)
 
 -- ---- where as many were quiet as are unfinished
 
@@ -191,6 +212,9 @@ no_writes [] process all = tt
 no_writes (Write round value ∷ goals) process all = absurd all.0
 no_writes (Ask round ∷ goals) zero all = tt
 no_writes (Ask round ∷ goals) (suc process) all = no_writes goals process all.1
+no_writes (Propose value ∷ goals) process all = absurd all.0
+no_writes (AskInput ∷ goals) zero all = tt
+no_writes (AskInput ∷ goals) (suc process) all = no_writes goals process all.1
 no_writes (Done ∷ goals) zero all = tt
 no_writes (Done ∷ goals) (suc process) all = no_writes goals process all
 no_writes (Spent ∷ goals) zero all = tt

@@ -1,5 +1,5 @@
 -- The quiet count stays one over every answer.
-use Rattle.std.proofs.Common.{◌≡◌, ℕ, ◌+◌, ◌<◌, min, Bool, true, false, cond, eqb, leb, ltb, List, [], ◌∷◌, ◌++◌, length, Option, Some, None, refl, sym, subst, arith}
+use Rattle.std.proofs.Common.{◌≡◌, ℕ, ◌+◌, ◌<◌, min, Bool, true, false, cond, eqb, leb, ltb, List, [], ◌∷◌, ◌++◌, length, Option, Some, None, refl, sym, subst, arith, zero, suc}
 use Rattle.std.proofs.lemmas.Bool.{leb-true}
 use Rattle.protocol_lang.specs.declared.meaning.Action.{Action}
 use Rattle.protocol_lang.specs.declared.meaning.Action.TheVariants as actions
@@ -7,19 +7,19 @@ use Rattle.room_spec.specs.Rooms.{RoomSpec}
 use Rattle.room_spec.specs.Rooms.{processes}
 use Rattle.protocol_lang.specs.Meaning.{next_action}
 use Rattle.protocol_lang.specs.Numbers.{greatest}
-use Rattle.std.specs.Prelude.{slice_index, ◌&&◌, ◌||◌}
+use Rattle.std.specs.Prelude.{◌&&◌, ◌||◌}
 use Rattle.simulator.specs.declared.goal.Goal.{Goal}
 use Rattle.simulator.specs.declared.goal.Goal.TheVariants as goals
 use Rattle.simulator.specs.declared.line.Line.{Line}
-use Rattle.simulator.specs.declared.line.Line.TheVariants.{Rest, Raise, Snap, Show, Enter, Look, Leave, Ask, GetView, Values, Out}
+use Rattle.simulator.specs.declared.line.Line.TheVariants.{Rest, Raise, Snap, Show, Enter, Look, Leave, Ask, GetInput, GetView, Values, Out}
 use Rattle.simulator.specs.declared.sweep.Ready.TheVariants as ready
 use Rattle.simulator.specs.declared.turn.Turn.TheVariants.{Useful}
-use Rattle.simulator.specs.Minds.{MindOf, MindState, is_unfinished, goal_at, current_goal, current_round, next_process, unfinished_in}
+use Rattle.simulator.specs.Minds.{MindOf, MindState, is_unfinished, goal_at, current_goal, current_round, next_process, unfinished_in, current_input}
 use Rattle.simulator.specs.Moves.{entry_in, chosen_in, is_again, loaded, taken_at, taken}
-use Rattle.simulator.specs.Quiet.{HasNoWrite, IsQuietCount, unfinished_from, AreAsksAtTheEnd}
+use Rattle.simulator.specs.Quiet.{HasNoWrite, IsQuietCount, unfinished_from, AreAsksAtTheEnd, IsAsk}
 use Rattle.simulator.specs.Ranges.{IsOpenAt, IsMind}
 use Rattle.simulator.specs.Sweeps.{is_resting, ready_of, quiet_after}
-use Rattle.simulator.specs.Turns.{TakenOf, counted, begun, goes_on, ended, asked, acted, after_write, most_collects, on_word, padded, gathered_all, gathered, opened_at, opened, scanned, with_decision, words_in}
+use Rattle.simulator.specs.Turns.{TakenOf, counted, begun, goes_on, ended, asked, acted, after_write, most_collects, on_word, padded, gathered_all, gathered, opened_at, opened, scanned, with_decision, words_in, asks_in, got_input}
 use Rattle.simulator.proofs.Asking.{sets_out, no_asks, quiet_ends, all_asked}
 use Rattle.simulator.proofs.Processes.{next_is_left}
 
@@ -35,8 +35,12 @@ CountsOn taken quiet = IsQuietCount taken.mind (quiet_after taken.turn quiet)
 useful : {S : Type 0} (goal : Goal) (mind : MindOf S) (quiet : ℕ) → CountsOn (ended Useful goal mind) quiet
 useful goal mind quiet = no_asks (unfinished_from (ended Useful goal mind).mind.goals (ended Useful goal mind).mind.process)
 
+asks_are : (round : ℕ) → IsAsk (asks_in round)
+asks_are zero = tt
+asks_are (suc round) = tt
+
 on_asked : {S : Type 0} (chosen : Option ℕ) (mind : MindOf S) (quiet : ℕ) → IsTurning mind quiet → CountsOn (asked chosen mind) quiet
-on_asked None mind quiet is = quiet_ends mind.goals mind.process (current_round mind) quiet (min (quiet + 1) 255) is.place is.left (omega arith) is.counts
+on_asked None mind quiet is = quiet_ends mind.goals mind.process (asks_in (current_round mind)) quiet (min (quiet + 1) 255) is.place is.left (omega arith) (asks_are (current_round mind)) is.counts
 on_asked (Some chosen) mind quiet is = is.counts
 
 on_acted : {S : Type 0} (spec : RoomSpec) (action : Action) (mind : MindOf S) (quiet : ℕ) → IsQuietCount mind quiet → CountsOn (acted spec action mind) quiet
@@ -49,7 +53,7 @@ on_test false one other quiet is that = that
 
 on_gathered_all : {S : Type 0} (spec : RoomSpec) (mind : MindOf S) (quiet : ℕ) → IsQuietCount mind quiet → CountsOn (gathered_all spec mind) quiet
 on_gathered_all spec mind quiet counts =
-    let action = next_action spec.protocol (slice_index spec.inputs mind.process) mind.process (current_round mind) mind.entries in
+    let action = next_action spec.protocol (current_input spec mind) mind.process (current_round mind) mind.entries in
     on_test (ltb (length mind.entries) (processes spec)) (goes_on Values mind) (acted spec action mind) quiet counts (on_acted spec action mind quiet counts)
 
 on_gathered : {S : Type 0} (row : ℕ → ℕ) (spec : RoomSpec) (entries : List (Option ℕ)) (mind : MindOf S) (quiet : ℕ) → IsQuietCount mind quiet → CountsOn (gathered row spec entries mind) quiet
@@ -64,6 +68,8 @@ on_scanned spec same mind quiet counts = on_test (eqb (words_in spec) 1) _ _ qui
 on_opened_at : {S : Type 0} (goal : Goal) (chosen : Option ℕ) (mind : MindOf S) (quiet : ℕ) → IsTurning mind quiet → CountsOn (opened_at goal chosen mind) quiet
 on_opened_at (goals.Write round value) chosen mind quiet is = is.counts
 on_opened_at (goals.Ask round) chosen mind quiet is = on_asked chosen mind quiet is
+on_opened_at (goals.Propose value) chosen mind quiet is = is.counts
+on_opened_at goals.AskInput chosen mind quiet is = on_asked chosen mind quiet is
 on_opened_at goals.Done chosen mind quiet is = is.counts
 on_opened_at goals.Spent chosen mind quiet is = is.counts
 
@@ -83,6 +89,7 @@ at_line Enter spec mind answer quiet place at counts = counts
 at_line Look spec mind answer quiet place at counts = counts
 at_line (Leave saw_two) spec mind answer quiet place at counts = counts
 at_line Ask spec mind answer quiet place at counts = on_asked (chosen_in spec answer) (counted mind) quiet (record { place = place; left = at; counts = counts })
+at_line (GetInput chosen) spec mind answer quiet place at counts = no_asks (unfinished_from (got_input spec answer (counted mind)).mind.goals mind.process)
 at_line (GetView chosen) spec mind answer quiet place at counts =
     let got = loaded answer (counted mind) in
     on_word_line spec (GetView chosen) got _ quiet counts (on_gathered (entry_in spec got.snapshot) spec [] (record got { word = 0 }) quiet counts)

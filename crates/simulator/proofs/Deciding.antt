@@ -1,6 +1,6 @@
 -- What a step makes of a simulator's decision: only the store of a decision of a process makes one, if there was none.
 use Rattle.std.proofs.Common.{◌≡◌, ◌≢◌, ℕ, ◌+◌, min, Bool, true, false, cond, eqb, ltb, List, [], ◌∷◌, ◌++◌, length, Option, Some, None, refl, ap, ◌∙◌}
-use Rattle.std.specs.Prelude.{slice_index, ◌&&◌, ◌||◌}
+use Rattle.std.specs.Prelude.{◌&&◌, ◌||◌}
 use Rattle.protocol_lang.specs.Meaning.{next_action}
 use Rattle.protocol_lang.specs.Numbers.{greatest}
 use Rattle.protocol_lang.specs.declared.meaning.Action.{Action}
@@ -9,8 +9,8 @@ use Rattle.room_spec.specs.Rooms.{RoomSpec, processes}
 use Rattle.simulator.specs.declared.goal.Goal.{Goal}
 use Rattle.simulator.specs.declared.goal.Goal.TheVariants as goals
 use Rattle.simulator.specs.declared.line.Line.{Line}
-use Rattle.simulator.specs.declared.line.Line.TheVariants.{Rest, Raise, Snap, Show, Enter, Look, Leave, Ask, GetView, Values, Out}
-use Rattle.simulator.specs.Minds.{MindState, current_round, goal_at, next_process, or_else}
+use Rattle.simulator.specs.declared.line.Line.TheVariants.{Rest, Raise, Snap, Show, Enter, Look, Leave, Ask, GetInput, GetView, Values, Out}
+use Rattle.simulator.specs.Minds.{MindState, current_round, goal_at, next_process, or_else, current_input}
 use Rattle.simulator.specs.Moves.{chosen_in, entry_in, is_again, loaded, taken, taken_at}
 use Rattle.simulator.specs.Turns.{TakenOf, acted, asked, begun, collected, counted, gathered, gathered_all, goes_on, most_collects, opened, opened_at, padded, scanned, words_in}
 
@@ -33,7 +33,7 @@ on_acted spec (actions.Decide decision) mind = refl
 
 on_gathered_all : (spec : RoomSpec) (mind : MindState) → (gathered_all spec mind).mind.decision ≡ mind.decision
 on_gathered_all spec mind =
-    let action = next_action spec.protocol (slice_index spec.inputs mind.process) mind.process (current_round mind) mind.entries in
+    let action = next_action spec.protocol (current_input spec mind) mind.process (current_round mind) mind.entries in
     by_test (ltb (length mind.entries) (processes spec)) mind.decision (goes_on Values mind) (acted spec action mind) refl (on_acted spec action mind)
 
 on_gathered : (row : ℕ → ℕ) (spec : RoomSpec) (entries : List (Option ℕ)) (mind : MindState) → (gathered row spec entries mind).mind.decision ≡ mind.decision
@@ -48,6 +48,8 @@ on_scanned spec same mind =
 on_opened_at : (goal : Goal) (chosen : Option ℕ) (mind : MindState) → (opened_at goal chosen mind).mind.decision ≡ mind.decision
 on_opened_at (goals.Write round value) chosen mind = refl
 on_opened_at (goals.Ask round) chosen mind = on_asked chosen mind
+on_opened_at (goals.Propose value) chosen mind = refl
+on_opened_at goals.AskInput chosen mind = on_asked chosen mind
 on_opened_at goals.Done chosen mind = refl
 on_opened_at goals.Spent chosen mind = refl
 
@@ -67,6 +69,7 @@ on_line Enter spec mind answer = refl
 on_line Look spec mind answer = refl
 on_line (Leave saw_two) spec mind answer = refl
 on_line Ask spec mind answer = on_asked (chosen_in spec answer) mind
+on_line (GetInput chosen) spec mind answer = refl
 on_line (GetView chosen) spec mind answer =
     let got = loaded answer mind in
     let row = entry_in spec got.snapshot in
@@ -87,6 +90,7 @@ had Enter decision = refl
 had Look decision = refl
 had (Leave saw_two) decision = refl
 had Ask decision = refl
+had (GetInput chosen) decision = refl
 had (GetView chosen) decision = refl
 had Values decision = refl
 had (Out other) decision = refl
@@ -100,6 +104,7 @@ had_none Enter other = refl
 had_none Look other = refl
 had_none (Leave saw_two) other = refl
 had_none Ask other = refl
+had_none (GetInput chosen) other = refl
 had_none (GetView chosen) other = refl
 had_none Values other = refl
 had_none (Out decision) other = absurd (other decision refl)

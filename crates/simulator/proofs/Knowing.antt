@@ -1,6 +1,6 @@
 -- Minds that know the same go on alike.
 use Rattle.std.proofs.Common.{◌≡◌, ℕ, ◌+◌, ◌*◌, ◌<◌, ◌≤◌, Bool, true, false, cond, eqb, ltb, List, [], ◌∷◌, ◌++◌, length, Option, Some, None, refl, sym, ap, ◌∙◌, arith, min}
-use Rattle.std.specs.Prelude.{slice_index, ◌&&◌, ◌||◌}
+use Rattle.std.specs.Prelude.{◌&&◌, ◌||◌}
 use Rattle.std.proofs.lemmas.Bool.{lt-ltb}
 use Rattle.protocol_lang.specs.declared.meaning.Action.{Action}
 use Rattle.protocol_lang.specs.declared.meaning.Action.TheVariants as actions
@@ -11,11 +11,11 @@ use Rattle.simulator.specs.declared.goal.Goal.{Goal}
 use Rattle.simulator.specs.declared.goal.Goal.TheVariants as goals
 use Rattle.simulator.specs.declared.knowledge.Knowledge.{Knowledge}
 use Rattle.simulator.specs.declared.line.Line.{Line}
-use Rattle.simulator.specs.declared.line.Line.TheVariants.{Rest, Raise, Snap, Show, Enter, Look, Leave, Ask, GetView, Values, Out}
+use Rattle.simulator.specs.declared.line.Line.TheVariants.{Rest, Raise, Snap, Show, Enter, Look, Leave, Ask, GetInput, GetView, Values, Out}
 use Rattle.simulator.specs.declared.operation.Move.{Move}
 use Rattle.simulator.specs.declared.operation.Move.TheVariants.{OutOfTurns}
 use Rattle.simulator.specs.Knowing.{knowledge_of, mind_of}
-use Rattle.simulator.specs.Minds.{MindState, goal_at, current_round, next_process}
+use Rattle.simulator.specs.Minds.{MindState, goal_at, current_round, next_process, current_input}
 use Rattle.simulator.specs.Moves.{IsOperation, chosen_in, entry_in, first_move, first_move_at, is_again, loaded, move_at, move_of, taken, taken_at}
 use Rattle.simulator.specs.Ranges.{IsMind, IsOpenAt, charged_steps, greatest_limit}
 use Rattle.simulator.specs.Sweeps.{is_resting}
@@ -36,6 +36,7 @@ charged Enter = omega arith
 charged Look = omega arith
 charged (Leave saw_two) = omega arith
 charged Ask = omega arith
+charged (GetInput chosen) = omega arith
 charged (GetView chosen) = omega arith
 charged Values = omega arith
 charged (Out decision) = omega arith
@@ -53,6 +54,7 @@ open_at Enter spec mind turns steps turn_steps h = h
 open_at Look spec mind turns steps turn_steps h = h
 open_at (Leave saw_two) spec mind turns steps turn_steps h = h
 open_at Ask spec mind turns steps turn_steps h = h
+open_at (GetInput chosen) spec mind turns steps turn_steps h = h
 open_at (GetView chosen) spec mind turns steps turn_steps h = h
 open_at Values spec mind turns steps turn_steps h = h
 open_at (Out decision) spec mind turns steps turn_steps h = h
@@ -73,6 +75,8 @@ knows_mind spec mind is = record {
   few = omega arith;
   counted = charged mind.line;
   at = open_at mind.line spec mind (cond (is_resting mind.line) 0 1) 0 0 is.at;
+  round = is.round;
+  inputs = is.inputs;
   order = is.order;
   decision = is.decision;
 }
@@ -98,6 +102,7 @@ move_same Enter spec mind some h = refl
 move_same Look spec mind some h = refl
 move_same (Leave saw_two) spec mind some h = refl
 move_same Ask spec mind some h = refl
+move_same (GetInput chosen) spec mind some h = refl
 move_same (GetView chosen) spec mind some h = refl
 move_same Values spec mind some h = refl
 move_same (Out decision) spec mind some h = refl
@@ -126,7 +131,7 @@ on_gathered : (row : ℕ → ℕ) (spec : RoomSpec) (entries : List (Option ℕ)
 on_gathered row spec entries mind t s u =
     let all = padded row (processes spec) entries in
     let now : MindState = record mind { entries = all } in
-    let action = next_action spec.protocol (slice_index spec.inputs mind.process) mind.process (current_round mind) all in
+    let action = next_action spec.protocol (current_input spec mind) mind.process (current_round mind) all in
     on_test (ltb (length all) (processes spec)) (goes_on Values (with_counts t s u now)) (acted spec action (with_counts t s u now)) (goes_on Values now) (acted spec action now) refl (on_acted spec action now t s u)
 
 on_word_line : (spec : RoomSpec) (line : Line) (mind : MindState) (t s u : ℕ) (last last_too : TakenOf (List ℕ)) → known last_too ≡ known last → known (on_word spec line (with_counts t s u mind) last_too) ≡ known (on_word spec line mind last)
@@ -144,6 +149,8 @@ on_scanned spec again mind t s u =
 on_opened_at : (goal : Goal) (chosen : Option ℕ) (mind : MindState) (t s u : ℕ) → known (opened_at goal chosen (with_counts t s u mind)) ≡ known (opened_at goal chosen mind)
 on_opened_at (goals.Write round value) chosen mind t s u = refl
 on_opened_at (goals.Ask round) chosen mind t s u = on_asked chosen mind t s u
+on_opened_at (goals.Propose value) chosen mind t s u = refl
+on_opened_at goals.AskInput chosen mind t s u = on_asked chosen mind t s u
 on_opened_at goals.Done chosen mind t s u = refl
 on_opened_at goals.Spent chosen mind t s u = refl
 
@@ -165,6 +172,7 @@ takes_same Enter spec mind answer t s u = refl
 takes_same Look spec mind answer t s u = refl
 takes_same (Leave saw_two) spec mind answer t s u = refl
 takes_same Ask spec mind answer t s u = on_asked (chosen_in spec answer) mind t s u
+takes_same (GetInput chosen) spec mind answer t s u = refl
 takes_same (GetView chosen) spec mind answer t s u =
     let now = loaded answer mind in
     let done : MindState = record now { word = 0 } in

@@ -7,7 +7,7 @@ use Rattle.room_spec.specs.Sizes.{Sizes, AreSizes, sizes_in}
 use Rattle.room_spec.proofs.CallerLemmas.{are_memory_words, by_bits}
 use Rattle.sim_memory.proofs.CallerLemmas.{rounds_fit}
 use Rattle.simulator.specs.declared.line.Line.{Line}
-use Rattle.simulator.specs.declared.line.Line.TheVariants.{Rest, Raise, Snap, Show, Enter, Look, Leave, Ask, GetView, Values, Out}
+use Rattle.simulator.specs.declared.line.Line.TheVariants.{Rest, Raise, Snap, Show, Enter, Look, Leave, Ask, GetInput, GetView, Values, Out}
 use Rattle.simulator.specs.Ranges.{IsCollectCount, IsMind, charged_steps, greatest_limit, scan_steps, turn_limit, words_at}
 use Rattle.simulator.specs.Minds.{MindState}
 use Rattle.simulator.proofs.Stepping.{bounded}
@@ -48,6 +48,7 @@ collects_most Enter spec collects is = is
 collects_most Look spec collects is = is
 collects_most (Leave saw_two) spec collects is = is
 collects_most Ask spec collects is = is
+collects_most (GetInput chosen) spec collects is = is
 collects_most (GetView chosen) spec collects is = is
 collects_most Values spec collects is = is
 collects_most (Out decision) spec collects is = is
@@ -64,6 +65,7 @@ collects_rest Enter spec collects is rests = absurd cc
 collects_rest Look spec collects is rests = absurd cc
 collects_rest (Leave saw_two) spec collects is rests = absurd cc
 collects_rest Ask spec collects is rests = absurd cc
+collects_rest (GetInput chosen) spec collects is rests = absurd cc
 collects_rest (GetView chosen) spec collects is rests = absurd cc
 collects_rest Values spec collects is rests = absurd cc
 collects_rest (Out decision) spec collects is rests = absurd cc
@@ -89,6 +91,7 @@ charged_least Enter steps = omega arith
 charged_least Look steps = omega arith
 charged_least (Leave saw_two) steps = omega arith
 charged_least Ask steps = omega arith
+charged_least (GetInput chosen) steps = omega arith
 charged_least (GetView chosen) steps = omega arith
 charged_least Values steps = omega arith
 charged_least (Out decision) steps = omega arith
@@ -102,6 +105,7 @@ word_few Enter spec word less few = omega (arith, less)
 word_few Look spec word less few = omega (arith, less)
 word_few (Leave saw_two) spec word less few = omega (arith, less)
 word_few Ask spec word less few = omega (arith, less)
+word_few (GetInput chosen) spec word less few = omega (arith, less)
 word_few (GetView chosen) spec word less few = omega (arith, less)
 word_few Values spec word less few = omega (arith, less)
 word_few (Out decision) spec word less few = omega (arith, less)

@@ -1,24 +1,24 @@
 -- Runs of many atomic steps.
-use Rattle.std.proofs.Common.{◌≡◌, ◌≢◌, ◌⊎◌, inl, inr, ℕ, ◌<◌, ◌≤◌, ◌+◌, Bool, true, false, ◌&&◌, ◌||◌, cond, eqb, ltb, List, [], ◌∷◌, ◌++◌, length, Option, Some, None, refl, sym, subst, ap, ◌∙◌, arith, length-append}
+use Rattle.std.proofs.Common.{◌≡◌, ◌≢◌, ◌⊎◌, inl, inr, ℕ, ◌<◌, ◌≤◌, ◌+◌, Bool, true, false, ◌&&◌, ◌||◌, cond, eqb, ltb, List, [], ◌∷◌, ◌++◌, length, Option, Some, None, refl, sym, subst, ap, ◌∙◌, arith, length-append, zero, suc}
 use Rattle.protocol_lang.specs.declared.meaning.Action.{Action}
 use Rattle.protocol_lang.specs.declared.meaning.Action.TheVariants as actions
 use Rattle.room_spec.specs.Rooms.{RoomSpec, processes}
 use Rattle.simulator.specs.declared.goal.Goal.{Goal}
 use Rattle.simulator.specs.declared.goal.Goal.TheVariants as goals
 use Rattle.simulator.specs.declared.line.Line.{Line}
-use Rattle.simulator.specs.declared.line.Line.TheVariants.{Rest, Raise, Snap, Show, Enter, Look, Leave, Ask, GetView, Values, Out}
+use Rattle.simulator.specs.declared.line.Line.TheVariants.{Rest, Raise, Snap, Show, Enter, Look, Leave, Ask, GetInput, GetView, Values, Out}
 use Rattle.simulator.specs.declared.operation.Move.{Move}
 use Rattle.simulator.specs.declared.operation.Move.TheVariants.{OutOfTurns}
 use Rattle.simulator.specs.declared.turn.Turn.{Turn}
 use Rattle.simulator.specs.declared.turn.Turn.TheVariants.{Still}
 use Rattle.simulator.specs.declared.sweep.Ready.TheVariants.{Step}
 use Rattle.simulator.specs.Bounds.{IsReadyThroughout, answered_all}
-use Rattle.simulator.specs.Minds.{MindState, goal_at, next_process}
+use Rattle.simulator.specs.Minds.{MindState, goal_at, next_process, current_round}
 use Rattle.simulator.specs.Moves.{IsOperation, chosen_in, entry_in, first_move, first_move_at, is_again, loaded, move_at, move_of, taken, taken_at}
 use Rattle.simulator.specs.Ranges.{at_line}
 use Rattle.simulator.specs.Runs.{Asked, LeavesTurn, Runs, taken_along}
 use Rattle.simulator.specs.Sweeps.{is_resting, quiet_after, ready_between, ready_of}
-use Rattle.simulator.specs.Turns.{TakenOf, acted, asked, begun, collected, counted, gathered, gathered_all, goes_on, most_collects, on_word, opened, opened_at, padded, scanned, words_in}
+use Rattle.simulator.specs.Turns.{TakenOf, acted, asked, begun, collected, counted, gathered, gathered_all, goes_on, most_collects, on_word, opened, opened_at, padded, scanned, words_in, gets_in}
 use Rattle.simulator.proofs.Stepping.{open_moves}
 
 -- ---- one step more
@@ -64,9 +64,13 @@ some_taken does spec memory mind count most last after turn runs (inr ends) some
 abbrev IsOpen : TakenOf (List ℕ) → Type 0
 IsOpen after = after.turn ≡ Still → is_resting after.mind.line ≡ false
 
+gets_open : (round chosen : ℕ) → is_resting (gets_in round chosen) ≡ false
+gets_open zero chosen = refl
+gets_open (suc round) chosen = refl
+
 open_asked : (chosen : Option ℕ) (mind : MindState) → IsOpen (asked chosen mind)
 open_asked None mind still = absurd cc
-open_asked (Some chosen) mind still = refl
+open_asked (Some chosen) mind still = gets_open (current_round mind) chosen
 
 open_acted : (spec : RoomSpec) (action : Action) (mind : MindState) → IsOpen (acted spec action mind)
 open_acted spec (actions.Write value) mind still = absurd cc
@@ -85,6 +89,8 @@ open_gathered row spec entries mind still = open_all spec _ still
 open_opened_at : (goal : Goal) (spec : RoomSpec) (simulator process : ℕ) (chosen : Option ℕ) (mind : MindState) → IsOperation (first_move_at goal spec simulator process) → IsOpen (opened_at goal chosen mind)
 open_opened_at (goals.Write round value) spec simulator process chosen mind operation still = refl
 open_opened_at (goals.Ask round) spec simulator process chosen mind operation still = open_asked chosen mind still
+open_opened_at (goals.Propose value) spec simulator process chosen mind operation still = refl
+open_opened_at goals.AskInput spec simulator process chosen mind operation still = open_asked chosen mind still
 open_opened_at goals.Done spec simulator process chosen mind operation still = absurd operation
 open_opened_at goals.Spent spec simulator process chosen mind operation still = absurd operation
 
@@ -117,6 +123,7 @@ open_taken Enter spec mind answer operation still = refl
 open_taken Look spec mind answer operation still = refl
 open_taken (Leave saw_two) spec mind answer operation still = refl
 open_taken Ask spec mind answer operation still = open_asked (chosen_in spec answer) (counted mind) still
+open_taken (GetInput chosen) spec mind answer operation still = absurd cc
 open_taken (GetView chosen) spec mind answer operation still = open_word spec (GetView chosen) (loaded answer (counted mind)) _ refl (open_gathered (entry_in spec (loaded answer (counted mind)).snapshot) spec [] (record (loaded answer (counted mind)) { word = 0 })) still
 open_taken Values spec mind answer operation still = open_gathered (entry_in spec mind.snapshot) spec _ (counted mind) still
 open_taken (Out decision) spec mind answer operation still = absurd cc
@@ -171,6 +178,8 @@ aside_gathered row spec entries line mind =
 aside_opened_at : (goal : Goal) (chosen : Option ℕ) (line : Line) (mind : MindState) → opened_at goal chosen (at_line line mind) ≡ opened_at goal chosen mind
 aside_opened_at (goals.Write round value) chosen line mind = refl
 aside_opened_at (goals.Ask round) chosen line mind = aside_asked chosen line mind
+aside_opened_at (goals.Propose value) chosen line mind = refl
+aside_opened_at goals.AskInput chosen line mind = aside_asked chosen line mind
 aside_opened_at goals.Done chosen line mind = refl
 aside_opened_at goals.Spent chosen line mind = refl
 
@@ -187,6 +196,7 @@ taken_aside Enter other spec mind answer = refl
 taken_aside Look other spec mind answer = refl
 taken_aside (Leave saw_two) other spec mind answer = refl
 taken_aside Ask other spec mind answer = aside_asked (chosen_in spec answer) other (counted mind)
+taken_aside (GetInput chosen) other spec mind answer = refl
 taken_aside (GetView chosen) other spec mind answer =
     let seen = loaded answer (counted mind) in
     ap (λ (last : TakenOf (List ℕ)). on_word spec (GetView chosen) seen last) (aside_gathered (entry_in spec seen.snapshot) spec [] other (record seen { word = 0 }))
@@ -206,6 +216,7 @@ move_aside Enter spec mind = refl
 move_aside Look spec mind = refl
 move_aside (Leave saw_two) spec mind = refl
 move_aside Ask spec mind = refl
+move_aside (GetInput chosen) spec mind = refl
 move_aside (GetView chosen) spec mind = refl
 move_aside Values spec mind = refl
 move_aside (Out decision) spec mind = refl

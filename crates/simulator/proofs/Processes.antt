@@ -9,7 +9,7 @@ use Rattle.std.proofs.lemmas.List.Quantifiers.{position-Some}
 use Rattle.room_spec.specs.Rooms.{RoomSpec}
 use Rattle.safe_agreement.proofs.CallerLemmas.{none_within}
 use Rattle.simulator.specs.declared.goal.Goal.{Goal}
-use Rattle.simulator.specs.declared.goal.Goal.TheVariants.{Write, Ask, Done, Spent}
+use Rattle.simulator.specs.declared.goal.Goal.TheVariants.{Write, Ask, Propose, AskInput, Done, Spent}
 use Rattle.simulator.specs.Minds.{MindState, is_unfinished, goal_at, unfinished_in, or_else, next_process, first_goal}
 
 -- ---- the first unfinished process of a list
@@ -18,6 +18,8 @@ none_left : (goals : List Goal) → length goals ≤ position_or_len is_unfinish
 none_left [] long = refl
 none_left (Write round value ∷ goals) long = absurd (omega arith)
 none_left (Ask round ∷ goals) long = absurd (omega arith)
+none_left (Propose value ∷ goals) long = absurd (omega arith)
+none_left (AskInput ∷ goals) long = absurd (omega arith)
 none_left (Done ∷ goals) long = none_left goals (omega arith)
 none_left (Spent ∷ goals) long = none_left goals (omega arith)
 
@@ -28,6 +30,8 @@ some_left : (goals : List Goal) (process : ℕ) → process < length goals → i
 some_left [] process below is = absurd (omega arith)
 some_left (Write round value ∷ goals) process below is = omega arith
 some_left (Ask round ∷ goals) process below is = omega arith
+some_left (Propose value ∷ goals) process below is = omega arith
+some_left (AskInput ∷ goals) process below is = omega arith
 some_left (Done ∷ goals) zero below is = absurd cc
 some_left (Done ∷ goals) (suc process) below is = some_left goals process (omega arith) is
 some_left (Spent ∷ goals) zero below is = absurd cc

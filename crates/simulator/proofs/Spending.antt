@@ -1,5 +1,6 @@
 -- How many atomic steps a simulator takes before it is idle: at most its limit for each turn that it begins, and the rest of the
 -- one that is open.
+use Rattle.room_spec.specs.Sizes.{sizes_in}
 use Rattle.std.proofs.Common.{◌≡◌, ℕ, ◌+◌, ◌-◌, ◌*◌, ◌<◌, ◌≤◌, min, Bool, true, false, cond, eqb, ltb, List, [], ◌∷◌, ◌++◌, length, Option, Some, None, refl, ap, ◌∙◌, arith}
 use Rattle.std.proofs.Math.Nat.{suc-mul, add-mul}
 use Rattle.std.proofs.lemmas.Nat.{mul-le}
@@ -7,23 +8,23 @@ use Rattle.protocol_lang.specs.declared.meaning.Action.{Action}
 use Rattle.protocol_lang.specs.declared.meaning.Action.TheVariants as actions
 use Rattle.protocol_lang.specs.Meaning.{next_action}
 use Rattle.protocol_lang.specs.Numbers.{greatest}
-use Rattle.std.specs.Prelude.{slice_index, ◌&&◌, ◌||◌}
+use Rattle.std.specs.Prelude.{◌&&◌, ◌||◌}
 use Rattle.safe_agreement.specs.Levels.{has_level}
 use Rattle.level_cells.specs.Fields.{levels_of}
 use Rattle.room_spec.specs.Rooms.{RoomSpec, processes}
 use Rattle.simulator.specs.declared.goal.Goal.{Goal}
 use Rattle.simulator.specs.declared.goal.Goal.TheVariants as goals
 use Rattle.simulator.specs.declared.line.Line.{Line}
-use Rattle.simulator.specs.declared.line.Line.TheVariants.{Rest, Raise, Snap, Show, Enter, Look, Leave, Ask, GetView, Values, Out}
+use Rattle.simulator.specs.declared.line.Line.TheVariants.{Rest, Raise, Snap, Show, Enter, Look, Leave, Ask, GetInput, GetView, Values, Out}
 use Rattle.simulator.specs.declared.sweep.Ready.TheVariants as ready
 use Rattle.simulator.specs.declared.turn.Turn.{Turn}
 use Rattle.simulator.specs.declared.turn.Turn.TheVariants.{Useful}
-use Rattle.simulator.specs.Bounds.{answered, answered_all, IsReadyThroughout}
-use Rattle.simulator.specs.Minds.{MindState, goal_at, current_round, next_process, unfinished_in}
+use Rattle.simulator.specs.Bounds.{answered, answered_all, IsReadyThroughout, agreement_rounds}
+use Rattle.simulator.specs.Minds.{MindState, goal_at, current_round, next_process, unfinished_in, current_input}
 use Rattle.simulator.specs.Moves.{entry_in, chosen_in, is_again, loaded, taken_at, taken}
 use Rattle.simulator.specs.Ranges.{IsMind, turn_limit}
 use Rattle.simulator.specs.Sweeps.{SweepState, is_resting, ready_of}
-use Rattle.simulator.specs.Turns.{TakenOf, counted, begun, goes_on, ended, asked, after_write, acted, most_collects, on_word, padded, gathered_all, gathered, opened_at, opened, scanned, with_decision, words_in}
+use Rattle.simulator.specs.Turns.{TakenOf, counted, begun, goes_on, ended, asked, after_write, acted, most_collects, on_word, padded, gathered_all, gathered, opened_at, opened, scanned, with_decision, words_in, gets_in}
 use Rattle.simulator.proofs.Bounding.{open_turns, falls_all, busy_by, open_most, turns_before}
 use Rattle.simulator.proofs.Keeping.{kept}
 use Rattle.simulator.proofs.Processes.{none_next}
@@ -44,7 +45,7 @@ on_end turn goal mind = record { turns = refl; stays = λ still. absurd cc }
 
 on_asked : (chosen : Option ℕ) (mind : MindState) → IsOn mind (asked chosen mind)
 on_asked None mind = record { turns = refl; stays = λ still. absurd cc }
-on_asked (Some chosen) mind = on_line (GetView chosen) mind
+on_asked (Some chosen) mind = on_line (gets_in (current_round mind) chosen) mind
 
 on_acted : (spec : RoomSpec) (action : Action) (mind : MindState) → IsOn mind (acted spec action mind)
 on_acted spec (actions.Write value) mind = on_end Useful (after_write spec.rounds (current_round mind) value) mind
@@ -56,7 +57,7 @@ on_test false mind one other is that = that
 
 on_gathered_all : (spec : RoomSpec) (mind : MindState) → IsOn mind (gathered_all spec mind)
 on_gathered_all spec mind =
-    let action = next_action spec.protocol (slice_index spec.inputs mind.process) mind.process (current_round mind) mind.entries in
+    let action = next_action spec.protocol (current_input spec mind) mind.process (current_round mind) mind.entries in
     on_test (ltb (length mind.entries) (processes spec)) mind (goes_on Values mind) (acted spec action mind) (on_line Values mind) (on_acted spec action mind)
 
 on_gathered : (row : ℕ → ℕ) (spec : RoomSpec) (entries : List (Option ℕ)) (mind : MindState) → IsOn mind (gathered row spec entries mind)
@@ -74,6 +75,8 @@ on_scanned spec same mind =
 on_opened_at : (goal : Goal) (chosen : Option ℕ) (mind : MindState) → IsOn mind (opened_at goal chosen mind)
 on_opened_at (goals.Write round value) chosen mind = on_line Raise mind
 on_opened_at (goals.Ask round) chosen mind = on_asked chosen mind
+on_opened_at (goals.Propose value) chosen mind = on_line Enter mind
+on_opened_at goals.AskInput chosen mind = on_asked chosen mind
 on_opened_at goals.Done chosen mind = on_line Rest mind
 on_opened_at goals.Spent chosen mind = on_line Rest mind
 
@@ -89,6 +92,7 @@ in_turn Enter spec mind answer still = on_line Look (counted mind)
 in_turn Look spec mind answer still = on_line (Leave (has_level 2 (levels_of answer spec.simulators))) (counted mind)
 in_turn (Leave saw_two) spec mind answer still = on_line Ask (counted mind)
 in_turn Ask spec mind answer still = on_asked (chosen_in spec answer) (counted mind)
+in_turn (GetInput chosen) spec mind answer still = record { turns = refl; stays = λ still. absurd cc }
 in_turn (GetView chosen) spec mind answer still =
     let got = loaded answer (counted mind) in
     let is = on_word_line spec (GetView chosen) got _ (let gathering = on_gathered (entry_in spec got.snapshot) spec [] (record got { word = 0 }) in record { turns = gathering.turns; stays = gathering.stays }) in
@@ -120,6 +124,7 @@ at_rest Enter spec mind answer quiet rests busy = absurd cc
 at_rest Look spec mind answer quiet rests busy = absurd cc
 at_rest (Leave saw_two) spec mind answer quiet rests busy = absurd cc
 at_rest Ask spec mind answer quiet rests busy = absurd cc
+at_rest (GetInput chosen) spec mind answer quiet rests busy = absurd cc
 at_rest (GetView chosen) spec mind answer quiet rests busy = absurd cc
 at_rest Values spec mind answer quiet rests busy = absurd cc
 at_rest (Out decision) spec mind answer quiet rests busy = absurd cc
@@ -180,16 +185,17 @@ open_left Enter most steps = omega arith
 open_left Look most steps = omega arith
 open_left (Leave saw_two) most steps = omega arith
 open_left Ask most steps = omega arith
+open_left (GetInput chosen) most steps = omega arith
 open_left (GetView chosen) most steps = omega arith
 open_left Values most steps = omega arith
 open_left (Out decision) most steps = omega arith
 
 pub steps_bounded : (spec : RoomSpec) (sweep : SweepState) (answers : List ℕ) → IsMind spec sweep.mind → IsReadyThroughout spec sweep answers
-    → (answered_all spec sweep answers).mind.steps ≤ sweep.mind.steps + (processes spec * spec.rounds + 1) * processes spec * (turn_limit spec)
+    → (answered_all spec sweep answers).mind.steps ≤ sweep.mind.steps + (processes spec * agreement_rounds (sizes_in spec) + 1) * processes spec * (turn_limit spec)
 steps_bounded spec sweep answers is ready =
     let n = processes spec in
     let last = answered_all spec sweep answers in
-    let most = (n * spec.rounds + 1) * n in
+    let most = (n * agreement_rounds (sizes_in spec) + 1) * n in
     let turns : last.mind.turns + open_turns sweep.mind.line ≤ sweep.mind.turns + most =
     omega (arith, turns_before n spec.rounds last.mind last.quiet, falls_all spec sweep answers is ready, open_most spec sweep.mind sweep.quiet is) in
     let product = mul-le (last.mind.turns + open_turns sweep.mind.line) (turn_limit spec) (sweep.mind.turns + most) (turn_limit spec) turns (omega arith) in

@@ -10,7 +10,7 @@ use Rattle.room_spec.proofs.CallerLemmas.{are_memory_words}
 use Rattle.simulator.specs.declared.goal.Goal.{Goal}
 use Rattle.simulator.specs.declared.goal.Goal.TheVariants as goals
 use Rattle.simulator.specs.declared.line.Line.{Line}
-use Rattle.simulator.specs.declared.line.Line.TheVariants.{Rest, Raise, Snap, Show, Enter, Look, Leave, Ask, GetView, Values, Out}
+use Rattle.simulator.specs.declared.line.Line.TheVariants.{Rest, Raise, Snap, Show, Enter, Look, Leave, Ask, GetInput, GetView, Values, Out}
 use Rattle.simulator.specs.declared.turn.Turn.{Turn}
 use Rattle.simulator.specs.declared.turn.Turn.TheVariants.{Still}
 use Rattle.simulator.specs.declared.operation.Move.TheVariants.{Finished, OutOfTurns}
@@ -49,6 +49,7 @@ most_below Enter spec word collects entries within count some few = omega arith
 most_below Look spec word collects entries within count some few = omega arith
 most_below (Leave saw_two) spec word collects entries within count some few = omega arith
 most_below Ask spec word collects entries within count some few = omega arith
+most_below (GetInput chosen) spec word collects entries within count some few = omega (arith, some)
 most_below (GetView chosen) spec word collects entries within count some few = omega (arith, within)
 most_below Values spec word collects entries within count some few = omega (arith, few)
 most_below (Out decision) spec word collects entries within count some few = omega (arith, few)
@@ -105,6 +106,8 @@ moved_gathered row spec entries mind = let is = moved_all spec _ in record { num
 moved_opened_at : (goal : Goal) (chosen : Option ℕ) (mind : MindState) → IsMoved mind (opened_at goal chosen mind)
 moved_opened_at (goals.Write round value) chosen mind = moved_on Raise mind
 moved_opened_at (goals.Ask round) chosen mind = moved_asked chosen mind
+moved_opened_at (goals.Propose value) chosen mind = moved_on Enter mind
+moved_opened_at goals.AskInput chosen mind = moved_asked chosen mind
 moved_opened_at goals.Done chosen mind = moved_on Rest mind
 moved_opened_at goals.Spent chosen mind = moved_on Rest mind
 
@@ -123,6 +126,7 @@ moved_taken Enter spec mind answer = moved_on Look mind
 moved_taken Look spec mind answer = moved_on _ mind
 moved_taken (Leave saw_two) spec mind answer = moved_on Ask mind
 moved_taken Ask spec mind answer = moved_asked (chosen_in spec answer) mind
+moved_taken (GetInput chosen) spec mind answer = record { number = refl; steps = refl; rests = λ ends. refl; stays = λ goes. absurd cc }
 moved_taken (GetView chosen) spec mind answer =
     let got = loaded answer mind in
     let is = moved_word spec (GetView chosen) got _ (let gathering = moved_gathered (entry_in spec got.snapshot) spec [] (record got { word = 0 }) in record { number = gathering.number; steps = gathering.steps; rests = gathering.rests; stays = gathering.stays }) in
@@ -171,6 +175,7 @@ open_operation Enter spec mind is = tt
 open_operation Look spec mind is = tt
 open_operation (Leave saw_two) spec mind is = leave_operation saw_two (levels_index spec mind) (level_unit mind)
 open_operation Ask spec mind is = tt
+open_operation (GetInput chosen) spec mind is = tt
 open_operation (GetView chosen) spec mind is = tt
 open_operation Values spec mind is = tt
 open_operation (Out decision) spec mind is = tt
@@ -189,6 +194,7 @@ rest_line Enter is = absurd cc
 rest_line Look is = absurd cc
 rest_line (Leave saw_two) is = absurd cc
 rest_line Ask is = absurd cc
+rest_line (GetInput chosen) is = absurd cc
 rest_line (GetView chosen) is = absurd cc
 rest_line Values is = absurd cc
 rest_line (Out decision) is = absurd cc
@@ -202,6 +208,8 @@ sweep_within spec mind is = omega (arith, is.process, is.goals)
 first_operation : (goal : Goal) (spec : RoomSpec) (simulator process : ℕ) → is_unfinished goal ≡ true → IsOperation (first_move_at goal spec simulator process)
 first_operation (goals.Write round value) spec simulator process is = tt
 first_operation (goals.Ask round) spec simulator process is = tt
+first_operation (goals.Propose value) spec simulator process is = tt
+first_operation goals.AskInput spec simulator process is = tt
 first_operation goals.Done spec simulator process is = absurd cc
 first_operation goals.Spent spec simulator process is = absurd cc
 

@@ -1,15 +1,16 @@
 -- A sweep visits each process before it comes to one a second time.
-use Rattle.std.proofs.Common.{◌≡◌, ℕ, zero, suc, ◌+◌, ◌%◌, ◌<◌, ◌≤◌, Bool, true, false, cond, List, [], ◌∷◌, ◌++◌, length, map, set, take, drop, Some, sym, ap, ◌∙◌, subst, arith}
+use Rattle.std.proofs.Common.{◌≡◌, ℕ, zero, suc, ◌+◌, ◌%◌, ◌<◌, ◌≤◌, Bool, true, false, cond, List, [], ◌∷◌, ◌++◌, length, map, replicate, set, take, drop, Some, sym, ap, ◌∙◌, subst, arith}
 use Rattle.std.specs.List.{AllByRecursion, filter, range_with_len}
 use Rattle.std.proofs.lemmas.List.{append-nil, take-append-drop}
 use Rattle.std.proofs.lemmas.List.Elements.{filter-append}
-use Rattle.room_spec.specs.Rooms.{RoomSpec, processes}
+use Rattle.std.specs.Prelude.{slice_index}
+use Rattle.room_spec.specs.Rooms.{RoomSpec, is_reduction, processes}
 use Rattle.simulator.specs.declared.goal.Goal.{Goal}
-use Rattle.simulator.specs.declared.goal.Goal.TheVariants.{Write, Ask, Done, Spent}
-use Rattle.simulator.specs.Minds.{is_unfinished, goal_at, next_process, first_goal, first_goals}
+use Rattle.simulator.specs.declared.goal.Goal.TheVariants.{Write, Ask, Propose, AskInput, Done, Spent}
+use Rattle.simulator.specs.Minds.{is_unfinished, goal_at, next_process, first_goal, first_goals, opening_goals}
 use Rattle.simulator.specs.Quiet.{unfinished_from}
 use Rattle.simulator.specs.Firsts.{IsVisited, AreVisitedLast}
-use Rattle.simulator.proofs.Asking.{sets_out, ends, first_of, others}
+use Rattle.simulator.proofs.Asking.{sets_out, ends, stays, first_of, others}
 
 abbrev AreVisited : List Goal → Type 0
 AreVisited goals = AllByRecursion IsVisited goals
@@ -62,12 +63,20 @@ first_range : (spec : RoomSpec) (a n : ℕ) → AreFirst (map (first_goal spec) 
 first_range spec a zero = tt
 first_range spec a (suc n) = ((λ (two : 2 ≤ 1). absurd (omega (arith, two))), first_range spec (a + 1) n)
 
-pub visited_first : (spec : RoomSpec) (sweep : ℕ) → AreVisitedLast (unfinished_from (first_goals spec) sweep)
-visited_first spec sweep =
-    let all = first_range spec 0 (processes spec) in
-    none_last (unfinished_from (first_goals spec) sweep)
-    (first_filter (drop sweep (first_goals spec) ++ take sweep (first_goals spec))
-    (first_append (drop sweep (first_goals spec)) (take sweep (first_goals spec)) (first_drop sweep (first_goals spec) all) (first_take sweep (first_goals spec) all)))
+proposals_first : (value n : ℕ) → AreFirst (replicate n (Propose value))
+proposals_first value zero = tt
+proposals_first value (suc n) = ((λ visited. visited), proposals_first value n)
+
+opening_first : (reduction : Bool) (spec : RoomSpec) (value : ℕ) → AreFirst (cond reduction (replicate (processes spec) (Propose value)) (first_goals spec))
+opening_first true spec value = proposals_first value (processes spec)
+opening_first false spec value = first_range spec 0 (processes spec)
+
+pub visited_first : (spec : RoomSpec) (i sweep : ℕ) → AreVisitedLast (unfinished_from (opening_goals spec i) sweep)
+visited_first spec i sweep =
+    let all = opening_first (is_reduction spec) spec (slice_index spec.own i) in
+    let goals = opening_goals spec i in
+    none_last (unfinished_from goals sweep)
+    (first_filter (drop sweep goals ++ take sweep goals) (first_append (drop sweep goals) (take sweep goals) (first_drop sweep goals all) (first_take sweep goals all)))
 
 -- ---- a turn begins, and ends
 
@@ -77,6 +86,8 @@ visited_begun goals sweep process found order = subst AreVisitedLast (sym (sets_
 comes_last : (goals : List Goal) (goal : Goal) → IsVisited goal → AreVisitedLast goals → AreVisitedLast (goals ++ filter is_unfinished (goal ∷ []))
 comes_last goals (Write round value) is order = last_more goals (Write round value) is order
 comes_last goals (Ask round) is order = last_more goals (Ask round) is order
+comes_last goals (Propose value) is order = absurd is
+comes_last goals AskInput is order = last_more goals AskInput is order
 comes_last goals Done is order = subst AreVisitedLast (sym (append-nil goals)) order
 comes_last goals Spent is order = subst AreVisitedLast (sym (append-nil goals)) order
 
@@ -85,6 +96,14 @@ visited_ended goals sweep goal below left is order =
     let rest = filter is_unfinished (others goals sweep) in
     let before : AreVisitedLast (goal_at goals sweep ∷ rest) = subst AreVisitedLast (first_of goals sweep below left) order in
     subst AreVisitedLast (sym (ends goals sweep goal below)) (comes_last rest goal is before.1)
+
+-- the sweep stays at a process that isn't visited yet
+pub visited_stayed : (goals : List Goal) (sweep : ℕ) (goal : Goal) → sweep < length goals → is_unfinished (goal_at goals sweep) ≡ true → is_unfinished goal ≡ true → (IsVisited goal → ⊥) → AreVisitedLast (unfinished_from goals sweep) → AreVisitedLast (unfinished_from (set goals sweep goal) sweep)
+visited_stayed goals sweep goal below left left_too none order =
+    let rest = filter is_unfinished (others goals sweep) in
+    let before : AreVisitedLast (goal_at goals sweep ∷ rest) = subst AreVisitedLast (first_of goals sweep below left) order in
+    let after : AreVisitedLast (goal ∷ rest) = ((λ visited. absurd (none visited)), before.1) in
+    subst AreVisitedLast (sym (stays goals sweep goal below left_too)) after
 
 -- ---- whoever comes to a process again has visited all
 
@@ -102,6 +121,10 @@ each_visited (Write round value ∷ goals) zero all = all.0
 each_visited (Write round value ∷ goals) (suc process) all = each_visited goals process all.1
 each_visited (Ask round ∷ goals) zero all = tt
 each_visited (Ask round ∷ goals) (suc process) all = each_visited goals process all.1
+each_visited (Propose value ∷ goals) zero all = all.0
+each_visited (Propose value ∷ goals) (suc process) all = each_visited goals process all.1
+each_visited (AskInput ∷ goals) zero all = tt
+each_visited (AskInput ∷ goals) (suc process) all = each_visited goals process all.1
 each_visited (Done ∷ goals) zero all = tt
 each_visited (Done ∷ goals) (suc process) all = each_visited goals process all
 each_visited (Spent ∷ goals) zero all = tt

@@ -59,7 +59,7 @@ loaded = (refl, refl)
 
 -- the mind of simulator 2, which asks for process 2, and the same between two turns
 abbrev asking : MindState
-asking = record { number = 2; goals = goals; process = 2; turns = 3; steps = 20; turn_steps = 6; line = lines.Ask; word = 0; collects = 0; before = no_words; snapshot = no_words; entries = []; decision = None }
+asking = record { number = 2; goals = goals; process = 2; turns = 3; steps = 20; turn_steps = 6; line = lines.Ask; word = 0; collects = 0; before = no_words; snapshot = no_words; entries = []; inputs = []; decision = None }
 
 abbrev resting : MindState
 resting = record asking { line = lines.Rest }

@@ -1,5 +1,5 @@
 -- Whole turns worked by hand: the moves of a simulator, each with its answer, and where it stands then.
-use Rattle.std.proofs.Common.{◌≡◌, ℕ, List, [], ◌∷◌, ◌++◌, None, Some, take, drop, refl}
+use Rattle.std.proofs.Common.{◌≡◌, ℕ, zero, suc, replicate, List, [], ◌∷◌, ◌++◌, None, Some, take, drop, refl}
 use Rattle.std.specs.Prelude.{codes}
 use Rattle.protocol_lang.specs.Trees.{Expression, Number, Named}
 use Rattle.protocol_lang.specs.declared.tree.Kind.{Kind}
@@ -12,10 +12,11 @@ use Rattle.simulator.specs.declared.operation.Move.TheVariants.{Load, Store, Add
 use Rattle.simulator.specs.declared.sweep.Ready.TheVariants.{Step, Idle, OutOfTurns as WithoutTurns}
 use Rattle.simulator.specs.declared.sweep.Ready.{Ready}
 use Rattle.simulator.specs.Minds.{MindState, opening_mind, unfinished_in}
-use Rattle.simulator.specs.Moves.{move_of, taken, entry_in, holder_in}
+use Rattle.simulator.specs.Moves.{answer_of, move_of, taken, words_after, entry_in, holder_in}
 use Rattle.simulator.specs.Sweeps.{SweepState, opening_sweep, quiet_after, ready_of}
-use Rattle.room_spec.specs.Sizes.{memory_words}
-use Rattle.view_table.specs.Places.{index_of}
+use Rattle.protocol_lang.specs.Thresholds.{waits_for_all_but}
+use Rattle.room_spec.specs.Sizes.{memory_words, sizes_in}
+use Rattle.view_table.specs.Places.{index_of, words_of}
 
 -- a room of one round, with the protocol `first input; else ..;`
 abbrev room_of : List ℕ → ℕ → ℕ → Kind → Expression → RoomSpec
@@ -23,6 +24,7 @@ room_of inputs simulators turns kind value = record {
   version = One;
   name = codes "a";
   inputs = inputs;
+  own = [];
   simulators = simulators;
   rounds = 1;
   turns = turns;
@@ -198,6 +200,7 @@ big = record {
   version = Two;
   name = codes "big";
   inputs = 1 ∷ 2 ∷ 3 ∷ 4 ∷ 5 ∷ 6 ∷ 7 ∷ 8 ∷ 9 ∷ [];
+  own = [];
   simulators = 2;
   rounds = 15;
   turns = 100;
@@ -224,3 +227,48 @@ whole_turn : (drop 8 (moves big 0 (scan_answers ++ 0 ∷ 0 ∷ 0 ∷ 1 ∷ 0 ∷
     × ((mind_after big 0 (scan_answers ++ 0 ∷ 0 ∷ 0 ∷ 1 ∷ 0 ∷ 2 ∷ 1099511627777 ∷ 0 ∷ 1 ∷ 2 ∷ [])).collects ≡ 3) × ((mind_after big 0 (scan_answers ++ 0 ∷ 0 ∷ 0 ∷ 1 ∷ 0 ∷ 2 ∷ 1099511627777 ∷ 0 ∷ 1 ∷ 2 ∷ 0 ∷ [])).collects ≡ 0)
 unfolding index_of memory_words
 whole_turn = (refl, refl, refl)
+
+-- ---- a reduction: two simulators with the inputs 7 and 3 run three processes
+
+abbrev shared : RoomSpec
+shared = record {
+  version = Two;
+  name = codes "vote";
+  inputs = 7 ∷ 7 ∷ 7 ∷ [];
+  own = 7 ∷ 3 ∷ [];
+  simulators = 2;
+  rounds = 2;
+  turns = 100;
+  task = None;
+  fuses = [];
+  protocol = waits_for_all_but 1;
+}
+
+-- it proposes its own input, and the process whose input it has then makes its first write at once
+agrees_alone : moves shared 0 (0 ∷ 0 ∷ 1 ∷ 1 ∷ 2 ∷ 7 ∷ []) ≡ Store 40 7 ∷ Add 37 1 ∷ Load 37 ∷ Add 37 1 ∷ Load 37 ∷ Load 40 ∷ Store 19 7 ∷ []
+unfolding index_of memory_words
+agrees_alone = refl
+
+-- one that comes late takes the input that was chosen
+comes_late : (moves shared 1 (0 ∷ 0 ∷ 6 ∷ 6 ∷ 2 ∷ 7 ∷ []) ≡ Store 44 3 ∷ Add 38 4 ∷ Load 38 ∷ Sub 38 4 ∷ Load 38 ∷ Load 41 ∷ Store 27 7 ∷ []) × (counts (mind_after shared 1 (0 ∷ 0 ∷ 6 ∷ 6 ∷ 2 ∷ 7 ∷ [])) ≡ 6 ∷ 1 ∷ 0 ∷ 3 ∷ [])
+unfolding index_of memory_words
+comes_late = (refl, refl)
+
+-- one that finds another inside the agreement goes on to the next process
+finds_it_open : moves shared 1 (0 ∷ 0 ∷ 5 ∷ 5 ∷ 9 ∷ []) ≡ Store 44 3 ∷ Add 38 4 ∷ Load 38 ∷ Add 38 4 ∷ Load 38 ∷ Store 45 3 ∷ []
+unfolding index_of memory_words
+finds_it_open = refl
+
+knows_inputs : ((mind_after shared 1 (0 ∷ 0 ∷ 1 ∷ 1 ∷ 8 ∷ [])).inputs ≡ 7 ∷ 7 ∷ 7 ∷ []) × ((mind_after shared 1 (0 ∷ 0 ∷ 4 ∷ 4 ∷ 8 ∷ 3 ∷ [])).inputs ≡ 7 ∷ 3 ∷ 7 ∷ [])
+unfolding memory_words
+knows_inputs = (refl, refl)
+
+-- a simulator that runs alone on words: what it knows after so many steps
+abbrev alone : ℕ → RoomSpec → MindState → List ℕ → MindState
+alone zero spec mind words = mind
+alone (suc steps) spec mind words = alone steps spec (taken spec mind (answer_of (move_of spec mind) words)).mind (words_after (move_of spec mind) words)
+
+-- it gives each process its own input, and decides it
+decides_alone : (counts (alone 66 shared (opening_mind shared 1) (replicate (words_of (sizes_in shared)) 0)) ≡ 66 ∷ 7 ∷ 0 ∷ 0 ∷ []) × ((alone 66 shared (opening_mind shared 1) (replicate (words_of (sizes_in shared)) 0)).decision ≡ Some 3)
+unfolding index_of words_of memory_words
+decides_alone = (refl, refl)

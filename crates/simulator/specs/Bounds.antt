@@ -1,6 +1,7 @@
 -- A simulator that takes step after step, and what it is answered.
-use Rattle.std.specs.Prelude.{◌≡◌, ℕ, List, [], ◌∷◌, ⊤}
+use Rattle.std.specs.Prelude.{◌≡◌, ℕ, ◌+◌, List, [], ◌∷◌, ⊤, if◌then◌else◌}
 use Rattle.room_spec.specs.Rooms.{RoomSpec}
+use Rattle.room_spec.specs.Sizes.{Sizes}
 use Rattle.simulator.specs.declared.sweep.Ready.TheVariants.{Step}
 use Rattle.simulator.specs.Moves.{taken}
 use Rattle.simulator.specs.Sweeps.{SweepState, ready_of, quiet_after}
@@ -19,3 +20,7 @@ abbrev pub IsReadyThroughout : RoomSpec → SweepState → List ℕ → Type 0
 IsReadyThroughout spec sweep [] = ⊤
 IsReadyThroughout spec sweep (answer ∷ answers) =
     (ready_of spec sweep.mind sweep.quiet ≡ Step) × IsReadyThroughout spec (answered spec sweep answer) answers
+
+-- in how many rounds simulators agree on something of a process: on its snapshots, and in a reduction on its input before
+abbrev pub agreement_rounds : Sizes → ℕ
+agreement_rounds sizes = if sizes.reduction then sizes.rounds + 1 else sizes.rounds

@@ -2,12 +2,14 @@
 use Rattle.std.specs.Prelude.{◌≤◌, List, [], ◌∷◌, ⊤}
 use Rattle.std.specs.List.{AllByRecursion}
 use Rattle.simulator.specs.declared.goal.Goal.{Goal}
-use Rattle.simulator.specs.declared.goal.Goal.TheVariants.{Write, Ask, Done, Spent}
+use Rattle.simulator.specs.declared.goal.Goal.TheVariants.{Write, Ask, Propose, AskInput, Done, Spent}
 
 -- a turn on the process has ended
 abbrev pub IsVisited : Goal → Type 0
 IsVisited (Write round value) = 2 ≤ round
 IsVisited (Ask round) = ⊤
+IsVisited (Propose value) = ⊥
+IsVisited AskInput = ⊤
 IsVisited Done = ⊤
 IsVisited Spent = ⊤
 

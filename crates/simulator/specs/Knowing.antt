@@ -15,6 +15,7 @@ knowledge_of mind = record {
   before = mind.before;
   snapshot = mind.snapshot;
   entries = record { items = mind.entries };
+  inputs = record { items = mind.inputs };
   decision = mind.decision;
 }
 
@@ -33,5 +34,6 @@ mind_of knowledge = record {
   before = knowledge.before;
   snapshot = knowledge.snapshot;
   entries = knowledge.entries.items;
+  inputs = knowledge.inputs.items;
   decision = knowledge.decision;
 }

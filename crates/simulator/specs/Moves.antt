@@ -11,11 +11,11 @@ use Rattle.sim_memory.specs.Steps.{merged_of, holder_of, place_of, step_in, word
 use Rattle.simulator.specs.declared.goal.Goal.{Goal}
 use Rattle.simulator.specs.declared.goal.Goal.TheVariants as goals
 use Rattle.simulator.specs.declared.line.Line.{Line}
-use Rattle.simulator.specs.declared.line.Line.TheVariants.{Rest, Raise, Snap, Show, Enter, Look, Leave, Ask, GetView, Values, Out}
+use Rattle.simulator.specs.declared.line.Line.TheVariants.{Rest, Raise, Snap, Show, Enter, Look, Leave, Ask, GetInput, GetView, Values, Out}
 use Rattle.simulator.specs.declared.operation.Move.{Move}
 use Rattle.simulator.specs.declared.operation.Move.TheVariants.{Load, Store, Add, Sub, Finished, OutOfTurns}
 use Rattle.simulator.specs.Minds.{MindState, goal_at, current_round, next_process}
-use Rattle.simulator.specs.Turns.{TakenOf, counted, goes_on, snapped, showed, asked, got_view, got_value, decided, opened}
+use Rattle.simulator.specs.Turns.{TakenOf, counted, goes_on, snapped, showed, asked, got_input, got_view, got_value, decided, opened}
 
 -- ---- words
 
@@ -67,6 +67,8 @@ leave_by false index unit = Add index unit
 abbrev pub first_move_at : Goal → RoomSpec → ℕ → ℕ → Move
 first_move_at (goals.Write round value) spec simulator process = Store (index_in spec (places.Value simulator process round)) value
 first_move_at (goals.Ask round) spec simulator process = Load (index_in spec (places.Levels process round))
+first_move_at (goals.Propose value) spec simulator process = Store (index_in spec (places.Value simulator process 0)) value
+first_move_at goals.AskInput spec simulator process = Load (index_in spec (places.Levels process 0))
 first_move_at goals.Done spec simulator process = Finished
 first_move_at goals.Spent spec simulator process = Finished
 
@@ -85,6 +87,7 @@ move_at Enter spec mind = Add (levels_index spec mind) (level_unit mind)
 move_at Look spec mind = Load (levels_index spec mind)
 move_at (Leave saw_two) spec mind = leave_by saw_two (levels_index spec mind) (level_unit mind)
 move_at Ask spec mind = Load (levels_index spec mind)
+move_at (GetInput chosen) spec mind = Load (index_in spec (places.Value chosen mind.process 0))
 move_at (GetView chosen) spec mind = Load (view_index spec chosen mind)
 move_at Values spec mind = Load (value_index spec mind (length mind.entries))
 move_at (Out decision) spec mind = Store (index_in spec (places.Out mind.number mind.process)) (decision + 1)
@@ -138,6 +141,7 @@ taken_at Enter spec mind answer = goes_on Look mind
 taken_at Look spec mind answer = goes_on (Leave (has_level 2 (levels_of answer spec.simulators))) mind
 taken_at (Leave saw_two) spec mind answer = goes_on Ask mind
 taken_at Ask spec mind answer = asked (chosen_in spec answer) mind
+taken_at (GetInput chosen) spec mind answer = got_input spec answer mind
 taken_at (GetView chosen) spec mind answer = got_view (entry_in spec (loaded answer mind).snapshot) spec chosen (loaded answer mind)
 taken_at Values spec mind answer = got_value (entry_in spec mind.snapshot) spec answer mind
 taken_at (Out decision) spec mind answer = decided decision mind

@@ -2,16 +2,18 @@
 use Rattle.std.specs.Prelude.{ℕ, List, ◌++◌, take, drop, reverse, ⊤}
 use Rattle.std.specs.List.{AllByRecursion, filter}
 use Rattle.simulator.specs.declared.goal.Goal.{Goal}
-use Rattle.simulator.specs.declared.goal.Goal.TheVariants.{Write, Ask}
+use Rattle.simulator.specs.declared.goal.Goal.TheVariants.{Write, Ask, Propose, AskInput}
 use Rattle.simulator.specs.Minds.{MindOf, is_unfinished}
 
 abbrev pub IsAsk : Goal → Type 0
 IsAsk (Ask round) = ⊤
+IsAsk AskInput = ⊤
 IsAsk goal = ⊥
 
--- it is an ask, or nothing is left to do
+-- it is an ask, or nothing is left to do: no value is to be stored
 abbrev pub HasNoWrite : Goal → Type 0
 HasNoWrite (Write round value) = ⊥
+HasNoWrite (Propose value) = ⊥
 HasNoWrite goal = ⊤
 
 -- the unfinished goals in the order in which the sweep reaches them: from its place on, going round

@@ -1,5 +1,5 @@
 -- The lines of a turn: what each makes of a mind. They too are the same whatever a snapshot is; S is its type.
-use Rattle.std.specs.Prelude.{ℕ, ◌+◌, ◌-◌, ◌*◌, ◌%◌, Bool, ◌&&◌, ◌||◌, List, [], ◌∷◌, ◌++◌, length, map, Option, Some, None, slice_index, slice_set, min, nat_lt, ◌==◌, if◌then◌else◌}
+use Rattle.std.specs.Prelude.{ℕ, zero, suc, ◌+◌, ◌-◌, ◌*◌, ◌%◌, Bool, ◌&&◌, ◌||◌, List, [], ◌∷◌, ◌++◌, length, map, Option, Some, None, slice_set, min, nat_lt, ◌==◌, if◌then◌else◌}
 use Rattle.std.specs.List.{range_with_len, take_while}
 use Rattle.protocol_lang.specs.Numbers.{greatest}
 use Rattle.protocol_lang.specs.Meaning.{next_action}
@@ -10,10 +10,10 @@ use Rattle.room_spec.specs.Sizes.{memory_words, sizes_in}
 use Rattle.simulator.specs.declared.goal.Goal.{Goal}
 use Rattle.simulator.specs.declared.goal.Goal.TheVariants as goals
 use Rattle.simulator.specs.declared.line.Line.{Line}
-use Rattle.simulator.specs.declared.line.Line.TheVariants.{Rest, Raise, Snap, Show, Enter, GetView, Values, Out}
+use Rattle.simulator.specs.declared.line.Line.TheVariants.{Rest, Raise, Snap, Show, Enter, GetInput, GetView, Values, Out}
 use Rattle.simulator.specs.declared.turn.Turn.{Turn}
 use Rattle.simulator.specs.declared.turn.Turn.TheVariants.{Still, Useful, Quiet}
-use Rattle.simulator.specs.Minds.{MindOf, goal_at, current_round, or_else}
+use Rattle.simulator.specs.Minds.{MindOf, goal_at, current_input, current_round, first_write, or_else}
 
 -- the mind after an atomic step, and what has become of its turn
 pub record TakenOf (S : Type 0) : Type 0 where
@@ -40,6 +40,13 @@ goes_on line mind = record { mind = record mind { line = line }; turn = Still }
 abbrev pub ended : {S : Type 0} → Turn → Goal → MindOf S → TakenOf S
 ended turn goal mind = record {
   mind = record mind { goals = slice_set mind.goals mind.process goal; process = (mind.process + 1) % length mind.goals; turn_steps = 0; line = Rest; collects = 0 };
+  turn = turn;
+}
+
+-- The turn ends, with this goal for its process from now on; the sweep stays at the process.
+abbrev pub stayed : {S : Type 0} → Turn → Goal → MindOf S → TakenOf S
+stayed turn goal mind = record {
+  mind = record mind { goals = slice_set mind.goals mind.process goal; turn_steps = 0; line = Rest; collects = 0 };
   turn = turn;
 }
 
@@ -73,10 +80,27 @@ snapped spec same mind = on_word spec Snap mind (scanned spec same (record mind 
 abbrev pub showed : {S : Type 0} → RoomSpec → MindOf S → TakenOf S
 showed spec mind = on_word spec Show mind (goes_on Enter (record mind { word = 0 }))
 
+-- what is left to do if nothing was chosen in this round, and the line after the choice; in the round 0 an input is chosen
+abbrev pub asks_in : ℕ → Goal
+asks_in zero = goals.AskInput
+asks_in (suc round) = goals.Ask (suc round)
+
+abbrev pub gets_in : ℕ → ℕ → Line
+gets_in zero chosen = GetInput chosen
+gets_in (suc round) chosen = GetView chosen
+
 -- It has asked which proposal was chosen. If none is yet, the turn is quiet.
 abbrev pub asked : {S : Type 0} → Option ℕ → MindOf S → TakenOf S
-asked None mind = ended Quiet (goals.Ask (current_round mind)) mind
-asked (Some chosen) mind = goes_on (GetView chosen) mind
+asked None mind = ended Quiet (asks_in (current_round mind)) mind
+asked (Some chosen) mind = goes_on (gets_in (current_round mind) chosen) mind
+
+-- It has the input of its process that was chosen; a number above the greatest value reads as that. The process makes its first
+-- write in the next turn, which is on it again.
+abbrev pub with_input : {S : Type 0} → ℕ → MindOf S → MindOf S
+with_input input mind = record mind { inputs = slice_set mind.inputs mind.process input }
+
+abbrev pub got_input : {S : Type 0} → RoomSpec → ℕ → MindOf S → TakenOf S
+got_input spec answer mind = stayed Useful (first_write spec (min answer greatest) mind.process) (with_input (min answer greatest) mind)
 
 -- what the process does after the snapshot that was agreed on: where it asks for a write after its last round, it is spent
 abbrev pub after_write : ℕ → ℕ → ℕ → Goal
@@ -98,7 +122,7 @@ padded row n entries = entries ++ map (λ q. None) (silent_from row n (length en
 abbrev pub gathered_all : {S : Type 0} → RoomSpec → MindOf S → TakenOf S
 gathered_all spec mind =
     if nat_lt (length mind.entries) (processes spec) then goes_on Values mind
-    else acted spec (next_action spec.protocol (slice_index spec.inputs mind.process) mind.process (current_round mind) mind.entries) mind
+    else acted spec (next_action spec.protocol (current_input spec mind) mind.process (current_round mind) mind.entries) mind
 
 abbrev pub gathered : {S : Type 0} → (ℕ → ℕ) → RoomSpec → List (Option ℕ) → MindOf S → TakenOf S
 gathered row spec entries mind =
@@ -124,10 +148,12 @@ with_decision decision mind = record mind { decision = or_else mind.decision (So
 abbrev pub decided : {S : Type 0} → ℕ → MindOf S → TakenOf S
 decided decision mind = ended Useful goals.Done (with_decision decision mind)
 
--- The first step of a turn: the store of a write, or an ask, of which the answer is given.
+-- The first step of a turn: the store of a write or of a proposed input, or an ask, of which the answer is given.
 abbrev pub opened_at : {S : Type 0} → Goal → Option ℕ → MindOf S → TakenOf S
 opened_at (goals.Write round value) chosen mind = goes_on Raise mind
 opened_at (goals.Ask round) chosen mind = asked chosen mind
+opened_at (goals.Propose value) chosen mind = goes_on Enter mind
+opened_at goals.AskInput chosen mind = asked chosen mind
 opened_at goals.Done chosen mind = goes_on Rest mind
 opened_at goals.Spent chosen mind = goes_on Rest mind
 

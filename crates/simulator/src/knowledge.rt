@@ -23,6 +23,7 @@ pub struct Knowledge {
     before: [u64; MAX_MEMORY_WORDS],
     snapshot: [u64; MAX_MEMORY_WORDS],
     entries: View,
+    inputs: ArrayVec<u32, MAX_PROCESSES>,
     decision: Option<u32>,
 }
 
@@ -41,6 +42,7 @@ impl Mind {
             before: self.before,
             snapshot: self.snapshot.words(),
             entries: copied_entries(&self.entries),
+            inputs: copied_inputs(&self.inputs),
             decision: self.decision,
         }
     }
@@ -62,6 +64,7 @@ impl Mind {
             before: knowledge.before,
             snapshot: Snapshot::of(knowledge.snapshot),
             entries: copied_entries(&knowledge.entries),
+            inputs: copied_inputs(&knowledge.inputs),
             decision: knowledge.decision,
         }
     }
@@ -82,6 +85,16 @@ fn copied_entries(entries: &View) -> View
 {
     let mut copy = View::new();
     let Ok(()) = copy.try_extend_from_slice(entries.as_slice()) else {
+        unreachable!() // both have the same capacity
+    };
+    copy
+}
+
+fn copied_inputs(inputs: &ArrayVec<u32, MAX_PROCESSES>) -> ArrayVec<u32, MAX_PROCESSES>
+    ensures { result.items ≡ inputs.now.items }
+{
+    let mut copy = ArrayVec::new();
+    let Ok(()) = copy.try_extend_from_slice(inputs.as_slice()) else {
         unreachable!() // both have the same capacity
     };
     copy

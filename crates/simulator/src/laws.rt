@@ -11,7 +11,7 @@ ghost use Rattle.simulator.specs.declared.line.Line.TheVariants.{Out};
 ghost use Rattle.simulator.specs.declared.operation.Move.TheVariants as moves;
 ghost use Rattle.simulator.specs.declared.sweep.Ready.TheVariants as answers;
 ghost use Rattle.simulator.specs.declared.turn.Turn.TheVariants.{Still};
-ghost use Rattle.simulator.specs.Bounds.{IsReadyThroughout, answered_all};
+ghost use Rattle.simulator.specs.Bounds.{IsReadyThroughout, agreement_rounds, answered_all};
 ghost use Rattle.simulator.specs.Firsts.{IsVisited};
 ghost use Rattle.simulator.specs.contracts.knowledge.KnowledgePartialEq.TheImpl.{ghosts as tests};
 ghost use Rattle.simulator.specs.declared.knowledge.Knowledge.{Knowledge};
@@ -118,7 +118,7 @@ pub fn idle_waits()
 pub fn turns_are_bounded()
     ensures { (spec : RoomSpec) (sweep : SweepState) (answers : List ℕ) →
         IsMind spec sweep.mind → IsReadyThroughout spec sweep answers →
-        (answered_all spec sweep answers).mind.turns ≤ sweep.mind.turns + (processes spec * spec.rounds + 1) * processes spec }
+        (answered_all spec sweep answers).mind.turns ≤ sweep.mind.turns + (processes spec * agreement_rounds (sizes_in spec) + 1) * processes spec }
 {}
 
 /// Nor does it take more than `(n * rounds + 1) * n` times the limit of a turn, a turn that is open at first included.
@@ -126,7 +126,7 @@ pub fn steps_are_bounded()
     ensures { (spec : RoomSpec) (sweep : SweepState) (answers : List ℕ) →
         IsMind spec sweep.mind → IsReadyThroughout spec sweep answers →
         (answered_all spec sweep answers).mind.steps ≤ sweep.mind.steps +
-        (processes spec * spec.rounds + 1) * processes spec * turn_limit spec }
+        (processes spec * agreement_rounds (sizes_in spec) + 1) * processes spec * turn_limit spec }
 {}
 
 /// No scan makes more collects than the room has writes, and two; and none is counted if the memory is one word, or

@@ -4,7 +4,7 @@
 #[derive(Clone, Copy, PartialEq, Eq, Hash, Default)]
 pub enum Line {
     /// None yet: it is between two turns. A turn begins with the store of the process's next
-    /// write or, where that was made, with an ask.
+    /// write or of a proposed input or, where that was made, with an ask.
     #[default]
     Rest,
     /// Add one to its own step number of the process.
@@ -21,6 +21,8 @@ pub enum Line {
     Leave { saw_two: bool },
     /// Load the levels of the agreement, to learn whose proposal was chosen.
     Ask,
+    /// Load the input that the chosen simulator proposes: the process's input.
+    GetInput { chosen: u16 },
     /// Load the proposal of the chosen simulator, one word after the other.
     GetView { chosen: u16 },
     /// Load the value of the next process that the chosen proposal shows.

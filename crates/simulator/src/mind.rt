@@ -2,12 +2,14 @@
 ghost use Rattle.std.specs.Prelude.{◌≡◌, ◌<◌, length, nat_lt};
 ghost use Rattle.room_spec.specs.Sizes.{sizes_in};
 ghost use Rattle.view_table.specs.Places.{words_of};
-ghost use Rattle.simulator.specs.Minds.{goal_at, next_process, opening_mind, unfinished_in};
+ghost use Rattle.simulator.specs.Minds.{goal_at, known_input, next_process, opening_mind, unfinished_in};
 ghost use Rattle.simulator.specs.Moves.{IsWithin, move_of};
 ghost use Rattle.simulator.specs.Ranges.{IsMind};
 ghost use Rattle.simulator.specs.Sweeps.{is_resting, works_on};
 
-use crate::goal::{Goal, first_goals, more_unfinished, next_process, unfinished_in};
+use crate::goal::{
+    Goal, more_unfinished, next_process, opening_goals, opening_inputs, unfinished_in,
+};
 use crate::line::Line;
 use crate::operation::Move;
 use crate::snapshot::Snapshot;
@@ -33,6 +35,7 @@ pub struct Mind {
     pub(crate) before: [u64; MAX_MEMORY_WORDS],
     pub(crate) snapshot: Snapshot,
     pub(crate) entries: View,
+    pub(crate) inputs: ArrayVec<u32, MAX_PROCESSES>,
     pub(crate) decision: Option<u32>,
 }
 
@@ -54,6 +57,7 @@ impl Model for Mind {
       before = m.before;
       snapshot = m.snapshot;
       entries = m.entries.items;
+      inputs = m.inputs.items;
       decision = m.decision;
     } };
 }
@@ -69,7 +73,7 @@ impl Mind {
         let shape = spec.shape();
         Mind {
             number: i as u8,
-            goals: first_goals(spec),
+            goals: opening_goals(spec, i),
             process: (i % shape.n) as u8,
             turns: 0,
             steps: 0,
@@ -80,6 +84,7 @@ impl Mind {
             before: [0; MAX_MEMORY_WORDS],
             snapshot: Snapshot::nothing(),
             entries: View::new(),
+            inputs: opening_inputs(spec),
             decision: None,
         }
     }
@@ -152,6 +157,20 @@ impl Mind {
         match self.goals.as_slice().get(process) {
             Some(goal) => *goal,
             None => Goal::Done,
+        }
+    }
+
+    /// The input of a process that was agreed on, as far as it knows. `None` before that, for a process that the room hasn't, and in
+    /// an ordinary room, which has no such agreement.
+    pub fn input(&self, process: usize) -> Option<u32>
+        ensures { result ≡ known_input self.now process }
+    {
+        if !self.goal(process).has_input() {
+            return None;
+        }
+        match self.inputs.as_slice().get(process) {
+            Some(input) => Some(*input),
+            None => None,
         }
     }
 

@@ -7,7 +7,7 @@ ghost use Rattle.view_table.specs.Places.{words_of};
 ghost use Rattle.view_table.specs.declared.place.Place.TheVariants as places;
 ghost use Rattle.simulator.specs.declared.operation.Move.TheVariants as moves;
 ghost use Rattle.simulator.specs.Minds.{current_goal, current_round, is_unfinished, next_process};
-ghost use Rattle.simulator.specs.Moves.{first_move, first_move_at, index_in, move_at, entry_in, value_index, view_index};
+ghost use Rattle.simulator.specs.Moves.{first_move, first_move_at, index_in, levels_index, move_at, entry_in, value_index, view_index};
 ghost use Rattle.simulator.specs.Notes.{AreLastWrites};
 ghost use Rattle.simulator.specs.Parts.{IsPartOf};
 ghost use Rattle.simulator.specs.Ranges.{IsGoal, IsMind, IsMindSomewhere, at_line};
@@ -17,11 +17,11 @@ use crate::goal::{Goal, next_process};
 use crate::line::Line;
 use crate::mind::Mind;
 use crate::operation::Move;
-use crate::part::Part;
+use crate::part::{Part, enter_at, leave_at};
 use crate::words::index_in;
 use room_spec::{Shape, Spec};
 use sim_memory::LastWrites;
-use view_table::{Place, index};
+use view_table::{Place, later_levels, later_value};
 
 impl Mind {
     /// The atomic step at this line.
@@ -35,9 +35,10 @@ impl Mind {
             Line::Raise => self.part(spec).raise(),
             Line::Snap => self.part(spec).snap(self.word()),
             Line::Show => self.show_move(spec),
-            Line::Enter => self.part(spec).enter(),
-            Line::Look | Line::Ask => self.part(spec).look(),
-            Line::Leave { saw_two } => self.part(spec).leave(saw_two),
+            Line::Enter => enter_at(self.levels(spec), self.number()),
+            Line::Look | Line::Ask => Move::Load(self.levels(spec)),
+            Line::Leave { saw_two } => leave_at(self.levels(spec), self.number(), saw_two),
+            Line::GetInput { chosen } => self.input_move(spec, chosen),
             Line::GetView { chosen } => self.view_move(spec, chosen),
             Line::Values => self.value_move(spec),
             Line::Out { decision } => self.out_move(spec, decision),
@@ -61,6 +62,7 @@ impl Mind {
     fn show_move(&self, spec: &Spec) -> Move
         requires is_mind { IsMindSomewhere spec.now self.now }
         requires open { is_unfinished (current_goal self.now) ≡ true }
+        requires round { 1 ≤ current_round self.now }
         requires word { self.now.word < words_in spec.now }
         ensures { result ≡ moves.Store (view_index spec.now self.now.number self.now) (slice_index self.now.snapshot self.now.word) }
     {
@@ -68,9 +70,29 @@ impl Mind {
         self.part(spec).show(word, self.snapshot.word(word))
     }
 
+    /// Loads the input that the chosen simulator proposes. Only a reduction has this line: it is out of line, as the other lines of turns on
+    /// inputs are, so that those of an ordinary room cost as much as if there were no others.
+    #[cold]
+    #[inline(never)]
+    fn input_move(&self, spec: &Spec, chosen: u16) -> Move
+        requires is_mind { IsMindSomewhere spec.now self.now }
+        requires open { is_unfinished (current_goal self.now) ≡ true }
+        requires round { current_round self.now ≡ 0 }
+        requires simulator { chosen < spec.now.simulators }
+        ensures { result ≡ moves.Load (index_in spec.now (places.Value chosen self.now.process 0)) }
+    {
+        let value = Place::Value {
+            simulator: usize::from(chosen),
+            process: self.process(),
+            round: 0,
+        };
+        Move::Load(index_in(spec, value))
+    }
+
     fn view_move(&self, spec: &Spec, chosen: u16) -> Move
         requires is_mind { IsMindSomewhere spec.now self.now }
         requires open { is_unfinished (current_goal self.now) ≡ true }
+        requires round { 1 ≤ current_round self.now }
         requires simulator { chosen < spec.now.simulators }
         requires word { self.now.word < words_in spec.now }
         ensures { result ≡ moves.Load (view_index spec.now chosen self.now) }
@@ -86,12 +108,7 @@ impl Mind {
     {
         let process = self.entries.len();
         let (simulator, round) = self.snapshot.last_write(spec, process);
-        let value = Place::Value {
-            simulator,
-            process,
-            round,
-        };
-        Move::Load(index_in(spec, value))
+        Move::Load(later_value(&spec.shape(), simulator, process, round))
     }
 
     /// The same by the room's numbers and the last writes that the snapshot shows, which are the same for all values.
@@ -104,12 +121,9 @@ impl Mind {
         ensures { result ≡ moves.Load (value_index spec.now self.now (length self.now.entries)) }
     {
         let process = self.entries.len();
-        let value = Place::Value {
-            simulator: usize::from(last.holders[process]),
-            process,
-            round: usize::from(last.rounds[process]),
-        };
-        Move::Load(index(shape, value))
+        let simulator = usize::from(last.holders[process]);
+        let round = usize::from(last.rounds[process]);
+        Move::Load(later_value(shape, simulator, process, round))
     }
 
     #[inline(always)]
@@ -124,11 +138,28 @@ impl Mind {
         Move::Store(index_in(spec, out), u64::from(decision) + 1)
     }
 
-    /// Its part in the agreement that its turn works on.
+    /// The index of the levels of the agreement that its turn works on, be it on a snapshot or on an input.
+    #[inline(always)]
+    fn levels(&self, spec: &Spec) -> usize
+        requires is_mind { IsMindSomewhere spec.now self.now }
+        requires open { is_unfinished (current_goal self.now) ≡ true }
+        ensures { result ≡ levels_index spec.now self.now }
+    {
+        let process = self.process();
+        match self.goals[process] {
+            Goal::Write { round, .. } | Goal::Ask { round } => {
+                later_levels(&spec.shape(), process, usize::from(round))
+            }
+            _ => input_levels(spec, process),
+        }
+    }
+
+    /// Its part in the agreement that its turn works on, which is on a snapshot.
     #[inline(always)]
     pub(crate) fn part(&self, spec: &Spec) -> Part
         requires is_mind { IsMindSomewhere spec.now self.now }
         requires open { is_unfinished (current_goal self.now) ≡ true }
+        requires round { 1 ≤ current_round self.now }
         ensures { IsPartOf spec.now self.now result }
     {
         Part {
@@ -152,7 +183,7 @@ impl Mind {
 pub(crate) fn first_move_at(spec: &Spec, simulator: usize, process: usize, goal: Goal) -> Move
     requires simulator { simulator < spec.now.simulators }
     requires process { process < processes spec.now }
-    requires round { IsGoal spec.now.rounds goal }
+    requires round { IsGoal (sizes_in spec.now) goal }
     ensures { result ≡ first_move_at goal spec.now simulator process }
 {
     match goal {
@@ -174,6 +205,47 @@ pub(crate) fn first_move_at(spec: &Spec, simulator: usize, process: usize, goal:
             };
             part.look()
         }
+        Goal::Propose { value } => propose(spec, simulator, process, value),
+        Goal::AskInput => ask_input(spec, process),
         Goal::Done | Goal::Spent => Move::Finished,
     }
+}
+
+/// Stores its own input as its proposal for the process.
+#[cold]
+#[inline(never)]
+fn propose(spec: &Spec, simulator: usize, process: usize, value: u32) -> Move
+    requires simulator { simulator < spec.now.simulators }
+    requires process { process < processes spec.now }
+    requires reduction { (sizes_in spec.now).reduction ≡ true }
+    ensures { result ≡ moves.Store (index_in spec.now (places.Value simulator process 0)) value }
+{
+    let place = Place::Value {
+        simulator,
+        process,
+        round: 0,
+    };
+    Move::Store(index_in(spec, place), u64::from(value))
+}
+
+/// Loads the levels of the agreement on the process's input.
+#[cold]
+#[inline(never)]
+fn ask_input(spec: &Spec, process: usize) -> Move
+    requires process { process < processes spec.now }
+    requires reduction { (sizes_in spec.now).reduction ≡ true }
+    ensures { result ≡ moves.Load (index_in spec.now (places.Levels process 0)) }
+{
+    Move::Load(input_levels(spec, process))
+}
+
+/// The index of the levels of the agreement on the process's input.
+#[cold]
+#[inline(never)]
+fn input_levels(spec: &Spec, process: usize) -> usize
+    requires process { process < processes spec.now }
+    requires reduction { (sizes_in spec.now).reduction ≡ true }
+    ensures { result ≡ index_in spec.now (places.Levels process 0) }
+{
+    index_in(spec, Place::Levels { process, round: 0 })
 }

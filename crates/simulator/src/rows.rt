@@ -182,8 +182,8 @@ impl Mind {
         self.count_steps(4);
     }
 
-    /// Takes the four steps of an agreement: enters it, looks at its levels, leaves it, and asks which proposal was
-    /// chosen.
+    /// Takes the four steps of an agreement on a snapshot: enters it, looks at its levels, leaves it, and asks which proposal
+    /// was chosen.
     #[inline(always)]
     fn take_agreement<C, M: Memory<C>>(
         &mut self,
@@ -203,7 +203,7 @@ impl Mind {
         memory.operate(room.context, part.leave(saw_two));
         let answer = memory.operate(room.context, part.look());
         self.count_steps(4);
-        let turn = self.ask(chosen_in(room.spec, answer));
+        let turn = self.ask_view(chosen_in(room.spec, answer));
         Run {
             count: 4,
             turn,
@@ -388,7 +388,7 @@ impl Mind {
         }
     }
 
-    /// Takes the four steps of an agreement, if as many are left.
+    /// Takes the four steps of an agreement on a snapshot, if as many are left.
     #[inline(always)]
     fn along_agreement<C, M: Memory<C>>(
         &mut self,
@@ -403,7 +403,7 @@ impl Mind {
         ensures more { run.old.count ≤ run.new.count }
         ensures most { run.old.count ≤ most → run.new.count ≤ most }
     {
-        if !run.is_at(Line::Enter, 4, most) {
+        if !run.is_at(Line::Enter, 4, most) || self.round() == 0 {
             return;
         }
         let part = self.part(room.spec);

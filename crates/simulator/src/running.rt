@@ -179,6 +179,11 @@ impl Mind {
                 let turn = self.ask(chosen_in(room.spec, answer));
                 self.stands(answer, turn)
             }
+            Line::GetInput { .. } => {
+                let answer = self.asked_of(room, line, memory);
+                let turn = self.get_input(room.spec, answer);
+                self.stands(answer, turn)
+            }
             Line::GetView { chosen } => {
                 let answer = self.asked_of(room, line, memory);
                 let turn = self.get_view(room.spec, chosen, answer);
@@ -220,7 +225,17 @@ impl Mind {
             Goal::Ask { round } => {
                 let goal = Goal::Ask { round };
                 let answer = self.first_of(room, process, goal, memory);
-                let turn = self.ask(chosen_in(room.spec, answer));
+                let turn = self.ask_view(chosen_in(room.spec, answer));
+                self.stands(answer, turn)
+            }
+            Goal::Propose { value } => {
+                let goal = Goal::Propose { value };
+                let answer = self.first_of(room, process, goal, memory);
+                goes_on(answer, Line::Enter)
+            }
+            Goal::AskInput => {
+                let answer = self.first_of(room, process, Goal::AskInput, memory);
+                let turn = self.ask_input(chosen_in(room.spec, answer));
                 self.stands(answer, turn)
             }
             Goal::Done | Goal::Spent => goes_on(0, Line::Rest),

@@ -6,11 +6,12 @@ ghost use Rattle.room_spec.specs.Rooms.{RoomSpec, processes};
 ghost use Rattle.room_spec.specs.Shapes.{sizes_of};
 ghost use Rattle.room_spec.specs.Sizes.{sizes_in};
 ghost use Rattle.room_spec.specs.declared.spec.TheConstants.{MAX_MEMORY_WORDS};
+ghost use Rattle.simulator.specs.Minds.{current_input, current_round};
 ghost use Rattle.simulator.specs.Moves.{entry_in, is_again, loaded};
 ghost use Rattle.simulator.specs.Notes.{AreLastWrites};
-ghost use Rattle.simulator.specs.Turns.{acted, after_write, asked, begun, collected, counted, counted_by, decided, ended, gathered, gathered_all, goes_on, got_value, got_view, most_collects, padded, scanned, showed, snapped, with_value, words_in};
+ghost use Rattle.simulator.specs.Turns.{acted, after_write, asked, begun, collected, counted, counted_by, decided, ended, gathered, gathered_all, goes_on, got_input, got_value, got_view, most_collects, padded, scanned, showed, snapped, stayed, with_value, words_in};
 
-use crate::goal::Goal;
+use crate::goal::{Goal, first_write};
 use crate::line::Line;
 use crate::mind::Mind;
 use crate::turn::Turn;
@@ -182,8 +183,23 @@ impl Mind {
         self.word += 1;
     }
 
+    /// Learns which proposal was chosen in the agreement of its turn, of whatever round.
     pub(crate) fn ask(&mut self, chosen: Option<u16>) -> Turn
         requires { self.old.process < length self.old.goals }
+        ensures mind { self.new ≡ (asked chosen self.old).mind }
+        ensures turn { result ≡ (asked chosen self.old).turn }
+    {
+        if self.round() == 0 {
+            self.ask_input(chosen)
+        } else {
+            self.ask_view(chosen)
+        }
+    }
+
+    /// Goes on to the chosen proposal of a snapshot, or ends the turn if none is chosen yet.
+    pub(crate) fn ask_view(&mut self, chosen: Option<u16>) -> Turn
+        requires process { self.old.process < length self.old.goals }
+        requires round { 1 ≤ current_round self.old }
         ensures mind { self.new ≡ (asked chosen self.old).mind }
         ensures turn { result ≡ (asked chosen self.old).turn }
     {
@@ -193,6 +209,62 @@ impl Mind {
                 let round = self.round();
                 self.end(Turn::Quiet, Goal::Ask { round })
             }
+        }
+    }
+
+    /// Goes on to the chosen input, or ends the turn if none is chosen yet.
+    #[cold]
+    #[inline(never)]
+    pub(crate) fn ask_input(&mut self, chosen: Option<u16>) -> Turn
+        requires process { self.old.process < length self.old.goals }
+        requires round { current_round self.old ≡ 0 }
+        ensures mind { self.new ≡ (asked chosen self.old).mind }
+        ensures turn { result ≡ (asked chosen self.old).turn }
+    {
+        match chosen {
+            Some(chosen) => self.go_on(Line::GetInput { chosen }),
+            None => self.end(Turn::Quiet, Goal::AskInput),
+        }
+    }
+
+    /// Takes in the chosen input of its process, whose first write it makes in its next turn.
+    #[cold]
+    #[inline(never)]
+    pub(crate) fn get_input(&mut self, spec: &Spec, value: u64) -> Turn
+        requires process { self.old.process < length self.old.goals }
+        requires goals { length self.old.goals ≡ processes spec.now }
+        requires inputs { length self.old.inputs ≡ processes spec.now }
+        ensures mind { self.new ≡ (got_input spec.now value self.old).mind }
+        ensures turn { result ≡ (got_input spec.now value self.old).turn }
+    {
+        let process = self.process();
+        let input = value.min(u64::from(u32::MAX)) as u32;
+        self.inputs[process] = input;
+        self.stay(Turn::Useful, first_write(spec, input, process))
+    }
+
+    /// Ends the turn, with this goal for its process, at which the sweep stays.
+    fn stay(&mut self, turn: Turn, goal: Goal) -> Turn
+        requires { self.old.process < length self.old.goals }
+        ensures mind { self.new ≡ (stayed turn goal self.old).mind }
+        ensures turn { result ≡ turn }
+    {
+        let process = self.process();
+        self.goals[process] = goal;
+        self.turn_steps = 0;
+        self.collects = 0;
+        self.line = Line::Rest;
+        turn
+    }
+
+    /// The input of its process, as far as it knows.
+    fn current_input(&self, spec: &Spec) -> u32
+        requires { self.now.process < processes spec.now }
+        ensures { result ≡ current_input spec.now self.now }
+    {
+        match self.inputs.as_slice().get(self.process()) {
+            Some(input) => *input,
+            None => spec.input(self.process()),
         }
     }
 
@@ -292,7 +364,7 @@ impl Mind {
     {
         let action = next(
             spec.protocol(),
-            spec.input(self.process()),
+            self.current_input(spec),
             u32::from(self.process),
             u32::from(self.round()),
             &self.entries,

@@ -8,6 +8,7 @@ use room_spec::Spec;
 use safe_agreement::resolved_in;
 use view_table::{Place, index};
 
+#[inline(always)]
 pub(crate) fn index_in(spec: &Spec, place: Place) -> usize
     requires { IsPlace (sizes_in spec.now) place }
     ensures value { result ≡ index_in spec.now place }

@@ -1,5 +1,5 @@
 -- The proposals of the simulators, each under the step that completes it: one that was chosen is framed, and one that can't be chosen is struck through.
-use Rattle.std.specs.Prelude.{ℕ, ◌+◌, ◌*◌, ◌==◌, ◌&&◌, Bool, List, [], ◌∷◌, ◌++◌, codes, drop, length, min, if◌then◌else◌}
+use Rattle.std.specs.Prelude.{ℕ, ◌+◌, ◌*◌, ◌==◌, ◌&&◌, ◌||◌, Bool, List, [], ◌∷◌, ◌++◌, codes, decimal, drop, length, min, if◌then◌else◌}
 use Rattle.std.specs.List.{flat_map}
 use Rattle.picture_shapes.specs.declared.colour.Colour.{Colour}
 use Rattle.picture_shapes.specs.declared.colour.Colour.TheVariants.{Clear, Hue, White}
@@ -21,7 +21,7 @@ use Rattle.run_columns.specs.declared.proposals.Fate.{Fate}
 use Rattle.run_columns.specs.declared.proposals.Fate.TheVariants.{Open, Chosen, Dropped}
 use Rattle.run_columns.specs.Columns.{simulator_of}
 use Rattle.run_columns.specs.StepKinds.{is_same}
-use Rattle.run_columns.specs.Proposals.{fate_of, proposal, word_number}
+use Rattle.run_columns.specs.Proposals.{fate_of, proposal, proposed_input, proposes_input, word_number}
 use Rattle.step_words.specs.Sights.{counts_text}
 use Rattle.simulator_lanes.specs.declared.fonts.TheConstants.{DROPPED, PROPOSAL}
 use Rattle.simulator_lanes.specs.declared.layout.Grid.{Grid}
@@ -31,13 +31,21 @@ use Rattle.simulator_lanes.specs.Words.{clipped, process_round, simulator_name}
 
 -- ---- words
 
--- a proposal in the words of `trace`: for each process how many writes of it the snapshot shows, or `.` for none, after a space
+-- a snapshot in the words of `trace`: for each process how many writes of it the snapshot shows, or `.` for none, after a space
 abbrev pub counts_of : Panel → Agreement → ℕ → List ℕ
 counts_of panel agreement simulator = counts_text panel.head.spec (proposal agreement simulator panel.marks)
 
+-- an input, after a space
+abbrev pub input_of : Panel → Agreement → ℕ → List ℕ
+input_of panel agreement simulator = 32 ∷ decimal (proposed_input agreement simulator panel.marks)
+
+-- what a simulator proposes: in round 0 an input, and in a later one a snapshot
+unfoldable pub proposal_words : Panel → Agreement → ℕ → List ℕ
+proposal_words panel agreement simulator = if agreement.round == 0 then input_of panel agreement simulator else counts_of panel agreement simulator
+
 -- under a step there is space for twelve bytes
-unfoldable pub short_counts : List ℕ → List ℕ
-short_counts counts = clipped 10 (drop 1 counts)
+unfoldable pub short_words : List ℕ → List ℕ
+short_words words = clipped 10 (drop 1 words)
 
 unfoldable pub fate_words : Fate → List ℕ
 fate_words Open = codes ", not resolved"
@@ -49,8 +57,8 @@ proposer simulator = simulator_name simulator ++ codes " proposed"
 
 -- simulator 0 proposed 1 . for process 0, round 1, chosen
 unfoldable pub proposal_hint : Agreement → ℕ → List ℕ → Fate → List ℕ
-proposal_hint agreement simulator counts fate =
-    proposer simulator ++ (counts ++ (codes " for " ++ (process_round agreement.process agreement.round ++ fate_words fate)))
+proposal_hint agreement simulator words fate =
+    proposer simulator ++ (words ++ (codes " for " ++ (process_round agreement.process agreement.round ++ fate_words fate)))
 
 -- ---- shapes
 
@@ -79,16 +87,16 @@ abbrev pub agreement_of : StepMark → Agreement
 agreement_of step = record { process = step.process; round = step.round }
 
 abbrev pub proposal_with : Point → StepMark → List ℕ → Fate → List Shape
-proposal_with corner step counts fate =
-    proposal_box corner step.process (short_counts counts) (proposal_hint (agreement_of step) step.simulator counts fate) fate
+proposal_with corner step words fate =
+    proposal_box corner step.process (short_words words) (proposal_hint (agreement_of step) step.simulator words fate) fate
 
 unfoldable pub proposal_at : Panel → Point → StepMark → List Shape
 proposal_at panel corner step =
-    proposal_with corner step (counts_of panel (agreement_of step) step.simulator) (fate_of (agreement_of step) step.simulator panel.marks (events_in panel.report))
+    proposal_with corner step (proposal_words panel (agreement_of step) step.simulator) (fate_of (agreement_of step) step.simulator panel.marks (events_in panel.report))
 
--- a step completes a proposal if it stores the last of its words
+-- a step completes a proposal if it stores an input, or the last word of a snapshot
 abbrev pub completes : ℕ → StepMark → Bool
-completes words step = is_same step.kind Propose && (word_number step.word + 1 == words)
+completes words step = proposes_input step || (is_same step.kind Propose && (word_number step.word + 1 == words))
 
 abbrev pub proposal_by : Mark → Panel → Point → List Shape
 proposal_by (Step step) panel corner = if completes (words_in panel) step then proposal_at panel corner step else []

@@ -16,7 +16,7 @@ pub use fonts::{CODE, EVENT, HEADING, LEGEND, SMALL, TITLE, WORDS};
 pub use lanes::{add_insides, add_lanes, add_ticks};
 pub use layout::{Grid, LEFT, MARGIN, dashes_for};
 pub use panel::{Head, Panel};
-pub use proposals::{add_proposals, counts_of, write_proposer};
+pub use proposals::{add_proposals, proposal_words, write_proposer};
 pub use squares::add_squares;
 pub use turns::add_turns;
 pub use words::{clipped, write_counted, write_process, write_simulator};

@@ -2,7 +2,7 @@
 ghost use Rattle.std.specs.Prelude.{◌≡◌, ◌++◌, ◌+◌, ◌*◌, ◌≤◌, IfOk, OnOk, length};
 ghost use Rattle.run_columns.specs.Proposals.{fate_of, word_number};
 ghost use Rattle.simulator_lanes.specs.Panels.{events_in, words_in};
-ghost use Rattle.simulator_lanes.specs.Proposals.{proposer, agreement_of, all_proposals, completes, counts_of, fate_font, fate_outline, fate_words, proposal_at, proposal_box, proposal_hint, proposal_in, proposal_width, proposal_with, proposals, short_counts};
+ghost use Rattle.simulator_lanes.specs.Proposals.{proposer, agreement_of, all_proposals, completes, counts_of, fate_font, fate_outline, fate_words, input_of, proposal_at, proposal_box, proposal_hint, proposal_in, proposal_width, proposal_with, proposal_words, proposals, short_words};
 
 use crate::fonts::{DROPPED, PROPOSAL};
 use crate::layout::Grid;
@@ -19,8 +19,8 @@ use step_words::write_counts;
 struct Proposal<'a> {
     /// The step that completes it.
     step: &'a Step,
-    /// How many writes of each process it shows.
-    counts: &'a [u8],
+    /// What it proposes: an input, or how many writes of each process the snapshot shows.
+    words: &'a [u8],
     fate: Fate,
 }
 
@@ -80,12 +80,13 @@ fn add_proposal_in(
     }
 }
 
-/// Whether a step stores the last word of a proposal, in a room with this many memory words.
+/// Whether a step stores an input that it proposes, or the last word of a snapshot, in a room with this many memory words.
 fn completes(words: usize, step: &Step) -> bool
     requires { words ≤ 4 }
     ensures { result ≡ completes words step.now }
 {
-    step.kind.is_same(StepKind::Propose) && word_number(step) + 1 == words
+    step.proposes_input()
+        || (step.kind.is_same(StepKind::Propose) && word_number(step) + 1 == words)
 }
 
 fn word_number(step: &Step) -> usize
@@ -107,31 +108,54 @@ fn add_proposal_at(
 ) -> Result<(), AllocError>
     ensures { OnOk result (sheet.new ≡ sheet.old ++ proposal_at panel.now corner step.now) }
 {
-    let agreement = agreement_of(step);
-    let counts = counts_of(sheet.alloc(), panel, agreement, step.simulator)?;
+    let agreement = Agreement {
+        process: step.process,
+        round: step.round,
+    };
+    let words = proposal_words(sheet.alloc(), panel, agreement, step.simulator)?;
     let proposal = Proposal {
         step,
-        counts: counts.as_bytes(),
+        words: words.as_bytes(),
         fate: agreement.fate(step.simulator, panel.marks(), panel.events()),
     };
     add_proposal_with(sheet, corner, &proposal)
 }
 
-fn agreement_of(step: &Step) -> Agreement
-    ensures { result ≡ agreement_of step.now }
-{
-    Agreement {
-        process: step.process,
-        round: step.round,
-    }
-}
-
-/// The proposal of a simulator in an agreement, in the words of `trace`: for each process how many writes of it the snapshot shows.
+/// The proposal of a simulator in an agreement, in the words of `trace`: in round 0 an input, and in a later one for each process how many writes of it the snapshot shows.
 ///
 /// # Errors
 ///
 /// An allocation that fails.
-pub fn counts_of(
+#[tactic(auto, unfolding(crate::specs::Proposals::proposal_words))]
+pub fn proposal_words(
+    alloc: Global,
+    panel: &Panel,
+    agreement: Agreement,
+    simulator: u8,
+) -> Result<Text, AllocError>
+    ensures { IfOk result (λ words. words ≡ proposal_words panel.now agreement simulator) }
+{
+    if agreement.round == 0 {
+        input_of(alloc, panel, agreement, simulator)
+    } else {
+        counts_of(alloc, panel, agreement, simulator)
+    }
+}
+
+fn input_of(
+    alloc: Global,
+    panel: &Panel,
+    agreement: Agreement,
+    simulator: u8,
+) -> Result<Text, AllocError>
+    ensures { IfOk result (λ words. words ≡ input_of panel.now agreement simulator) }
+{
+    let mut words = Text::new(alloc);
+    words.put_number(agreement.proposed_input(simulator, panel.marks()))?;
+    Ok(words)
+}
+
+fn counts_of(
     alloc: Global,
     panel: &Panel,
     agreement: Agreement,
@@ -155,18 +179,18 @@ fn add_proposal_with(
     corner: Point,
     proposal: &Proposal<'_>,
 ) -> Result<(), AllocError>
-    ensures { OnOk result (sheet.new ≡ sheet.old ++ proposal_with corner proposal.now.step.now proposal.now.counts.now proposal.now.fate) }
+    ensures { OnOk result (sheet.new ≡ sheet.old ++ proposal_with corner proposal.now.step.now proposal.now.words.now proposal.now.fate) }
 {
-    let words = short_counts(sheet.alloc(), proposal.counts)?;
+    let short = short_words(sheet.alloc(), proposal.words)?;
     let hint = proposal_hint(sheet.alloc(), proposal)?;
-    add_proposal_box(sheet, corner, proposal, words.as_bytes(), hint.as_bytes())
+    add_proposal_box(sheet, corner, proposal, short.as_bytes(), hint.as_bytes())
 }
 
-#[tactic(auto, unfolding(crate::specs::Proposals::short_counts))]
-fn short_counts(alloc: Global, counts: &[u8]) -> Result<Text, AllocError>
-    ensures { IfOk result (λ words. words ≡ short_counts counts.now) }
+#[tactic(auto, unfolding(crate::specs::Proposals::short_words))]
+fn short_words(alloc: Global, words: &[u8]) -> Result<Text, AllocError>
+    ensures { IfOk result (λ short. short ≡ short_words words.now) }
 {
-    clipped(alloc, 10, &counts[counts.len().min(1)..])
+    clipped(alloc, 10, &words[words.len().min(1)..])
 }
 
 #[tactic(auto, unfolding(crate::specs::Proposals::proposal_box))]
@@ -216,12 +240,12 @@ fn fate_font(fate: Fate) -> Font
 
 #[tactic(auto, unfolding(crate::specs::Proposals::proposal_hint))]
 fn proposal_hint(alloc: Global, proposal: &Proposal<'_>) -> Result<Text, AllocError>
-    ensures { IfOk result (λ words. words ≡ proposal_hint (agreement_of proposal.now.step.now) proposal.now.step.now.simulator proposal.now.counts.now proposal.now.fate) }
+    ensures { IfOk result (λ words. words ≡ proposal_hint (agreement_of proposal.now.step.now) proposal.now.step.now.simulator proposal.now.words.now proposal.now.fate) }
 {
     let step = proposal.step;
     let mut words = Text::new(alloc);
     write_proposer(&mut words, step.simulator)?;
-    words.put(proposal.counts)?;
+    words.put(proposal.words)?;
     words.put(b" for ")?;
     write_process_round(&mut words, step.process, step.round)?;
     words.put(fate_words(proposal.fate))?;

@@ -1,6 +1,6 @@
 //! What steps do, in words.
 ghost use Rattle.std.specs.Prelude.{◌≡◌, ◌++◌, ◌≤◌, IfOk, OnOk};
-ghost use Rattle.simulator_lanes.specs.Words.{actor_words, clipped, counted, decision_words, kind_words, process_name, process_round, simulator_name, step_words, stored_words, word_words};
+ghost use Rattle.simulator_lanes.specs.Words.{actor_words, clipped, counted, decision_words, input_verb, input_words, kind_words, process_name, process_round, simulator_name, step_words, stored_words, verb_in, word_words};
 
 use io_text::Text;
 use picture_shapes::write_decimal;
@@ -68,7 +68,29 @@ fn write_actor(output: &mut Text, step: &Step) -> Result<(), AllocError>
 {
     output.put(b": ")?;
     write_simulator(output, step.simulator)?;
-    output.put(step.kind.verb())
+    output.put(verb_in(step.round, step.kind))
+}
+
+/// What a simulator does in this round, up to the words that say for which process.
+fn verb_in(round: u8, kind: StepKind) -> &'static [u8]
+    ensures { result.now ≡ verb_in round kind }
+{
+    if round == 0 {
+        input_verb(kind)
+    } else {
+        kind.verb()
+    }
+}
+
+/// What a simulator does in round 0, in which a value that is stored is a proposal, and one that is loaded is the input that was chosen.
+fn input_verb(kind: StepKind) -> &'static [u8]
+    ensures { result.now ≡ input_verb kind }
+{
+    match kind {
+        StepKind::StoreWrite => b" proposes an input for ",
+        StepKind::LoadValue => b" loads the chosen input of ",
+        _ => kind.verb(),
+    }
 }
 
 /// Says what a step does, and for which process.
@@ -81,16 +103,28 @@ pub(crate) fn write_kind(output: &mut Text, step: &Step) -> Result<(), AllocErro
     write_word(output, step.word)
 }
 
-/// Writes what a step stores, if it proposes, in the words of `trace`.
+/// Writes what a step stores, if it proposes: an input, or a snapshot in the words of `trace`.
 fn write_stored(output: &mut Text, spec: &Spec, step: &Step) -> Result<(), AllocError>
     ensures { OnOk result (output.new ≡ output.old ++ stored_words spec.now step.now) }
 {
     if !step.kind.is_same(StepKind::Propose) {
-        return Ok(());
+        return write_input(output, step);
     }
     let _words = spec.shape().memory_words(); // for the proof: at most four
     output.put(b":")?;
     write_counts(output, spec, &step.words())
+}
+
+/// Writes the input that a step proposes, if it proposes one.
+fn write_input(output: &mut Text, step: &Step) -> Result<(), AllocError>
+    ensures { OnOk result (output.new ≡ output.old ++ input_words step.now) }
+{
+    if step.proposes_input() {
+        output.put(b":")?;
+        output.put_number(step.stored)
+    } else {
+        Ok(())
+    }
 }
 
 /// Writes what the simulator decides by a step, if it does.

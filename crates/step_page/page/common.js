@@ -12,10 +12,14 @@ const hueOf = process => `var(--process${process % 8})`;
 // What a block says of its room.
 function readSpec(block) {
   const words = name => (block.find(line => line.startsWith(name + ' ')) || '').split(' ').slice(1);
+  const isReduction = block[0] === 'reduction 1'; // the inputs are those of the simulators
+  const inputs = words('inputs');
   return {
     name: words('room')[0],
-    inputs: words('inputs'),
-    simulators: Number(words('simulators')[0]),
+    isReduction,
+    inputs,
+    processes: isReduction ? Number(words('processes')[0]) : inputs.length,
+    simulators: isReduction ? inputs.length : Number(words('simulators')[0]),
     rounds: Number(words('rounds')[0]),
     turns: Number(words('turns')[0]),
     protocol: block.slice(block.indexOf('protocol') + 1),

@@ -5,14 +5,15 @@ const LEVELS = ['level 0: outside', 'level 1: in the unsafe section', 'level 2: 
 // A row of step numbers in words: how many writes of each process it has.
 const writesIn = row => listed(row.map((number, p) => `${number === 0 ? 'no write' : many(number, 'write')} of process ${p}`));
 
-const agreementHint = (process, round) => `agreement (${process},${round}): on the snapshot of process ${process} in round ${round}`;
+const agreementHint = (process, round) => `agreement (${process},${round}): on the ${round === 0 ? `input of process ${process}` : `snapshot of process ${process} in round ${round}`}`;
 
 const countHint = (simulator, process, number) => `step(${simulator},${process}): simulator ${simulator} has counted ${many(number, 'write')} of process ${process}`;
 
 const DECISION_HINT = 'what a simulator has decided: the first decision of a process that it stored';
 const decisionHint = (simulator, decision) => (decision === undefined ? `simulator ${simulator} has not decided` : `simulator ${simulator} has decided ${decision}`);
 
-const proposalHint = (simulator, row, fate) => (row ? `; it proposes a snapshot with ${writesIn(row)}${fate}` : `; simulator ${simulator} proposes nothing yet`);
+const proposedIn = row => (Array.isArray(row) ? `a snapshot with ${writesIn(row)}` : `the input ${row}`);
+const proposalHint = (simulator, row, fate) => (row === null ? `; simulator ${simulator} proposes nothing yet` : `; it proposes ${proposedIn(row)}${fate}`);
 
 const levelHint = (simulator, process, round, level, row, fate) => `simulator ${simulator} in agreement (${process},${round}): ${LEVELS[level]}${proposalHint(simulator, row, fate)}`;
 

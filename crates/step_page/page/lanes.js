@@ -96,7 +96,7 @@ function drawLanes(room, count) {
   const total = room.moments.length;
   const first = firstDrawn(total, count);
   const top = TOP + room.simulators * LANE + 6;
-  const bottom = top + room.inputs.length * EVENTS;
+  const bottom = top + room.processes * EVENTS;
   const height = bottom + (room.openings.length > 0 ? EVENTS : 0) + 6;
   const width = LEFT + (Math.min(total, layout.columns) + 1) * SQUARE + 60;
   room.events ??= eventsOf(stateAt(room, total), room);
@@ -107,8 +107,8 @@ function drawLanes(room, count) {
     + '<defs><pattern id="hatch" width="7" height="7" patternUnits="userSpaceOnUse" patternTransform="rotate(45)"><rect width="7" height="7" fill="var(--inside)"/><path d="M 0 0 V 7" stroke="var(--hatch)" stroke-width="2"/></pattern></defs>'
     + range(room.simulators).map(i => drawLane(room, i, first, count, TOP + i * LANE)).join('')
     + drawNow(now, height)
-    + range(room.inputs.length).map(p => textAt(2, top + p * EVENTS + 15, 'process ' + p, `fill="${hueOf(p)}"`) + `<path d="M 98 ${top + p * EVENTS + 10} H ${width}" stroke="var(--rule)"/>`).join('')
-    + range(room.inputs.length).map(p => drawEvents(room, events.filter(event => event.process === p), first, count, top + p * EVENTS)).join('')
+    + range(room.processes).map(p => textAt(2, top + p * EVENTS + 15, 'process ' + p, `fill="${hueOf(p)}"`) + `<path d="M 98 ${top + p * EVENTS + 10} H ${width}" stroke="var(--rule)"/>`).join('')
+    + range(room.processes).map(p => drawEvents(room, events.filter(event => event.process === p), first, count, top + p * EVENTS)).join('')
     + (room.openings.length > 0 ? drawOpenings(room, first, count, bottom, width) : '')
     + '</svg>';
 }

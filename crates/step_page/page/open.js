@@ -55,7 +55,7 @@ function outcomes(room, count) {
   const openings = room.openings.filter(({ at }) => at <= count);
   if (openings.length === 0) return '';
   const known = [...new Set(openings.flatMap(opening => opening.outcomes ?? []))];
-  const head = [corner, ...range(room.inputs.length).map(processHead), headCell('result', 'whether some schedule of the simulators still leads to it')];
+  const head = [corner, ...range(room.processes).map(processHead), headCell('result', 'whether some schedule of the simulators still leads to it')];
   const rows = known.map((outcome, index) => {
     const standing = standingOfOutcome(openings, outcome);
     const isNow = standing === `closed by step ${count}` && openings.at(-1).at === count;

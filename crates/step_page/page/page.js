@@ -27,7 +27,8 @@ function differenceText(rooms) {
 }
 
 function panelOf(room) {
-  const about = `${many(room.inputs.length, 'process')}, inputs ${room.inputs.join(' ')}; ${many(room.simulators, 'simulator')}; ${many(room.rounds, 'round')}`;
+  const inputs = `, inputs ${room.inputs.join(' ')}`;
+  const about = `${many(room.processes, 'process')}${room.isReduction ? '' : inputs}; ${many(room.simulators, 'simulator')}${room.isReduction ? inputs : ''}; ${many(room.rounds, 'round')}`;
   return `<section class="run"><header><h1>${escaped(room.name)}</h1><p class="about">${escaped(about)}</p><code class="protocol">${escaped(room.protocol.join(' '))}</code></header>`
     + '<div class="sentence" role="status" aria-live="polite"></div><div class="lanes"></div><div class="tables"></div></section>';
 }

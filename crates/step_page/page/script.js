@@ -29,7 +29,7 @@ function readReplies(trace) {
 }
 
 // The letter of a step by its line, as in the pictures of `bgview draw`. A step that enters or leaves an agreement has the level that it comes to.
-const LETTERS = { write: 'W', raise: '+', snap: 'S', show: 'V', look: '?', ask: 'A', view: 'G', values: 'r', out: 'D' };
+const LETTERS = { propose: 'W', input: 'r', write: 'W', raise: '+', snap: 'S', show: 'V', look: '?', ask: 'A', view: 'G', values: 'r', out: 'D' };
 const letterOf = ({ simulator, access: { line, after } }) => LETTERS[line] ?? String(after[simulator]);
 
 // A step as a moment of its room. `spent`: the processes of which the trace says at this moment that they are out of rounds.

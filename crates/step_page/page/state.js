@@ -23,9 +23,9 @@ function store(state, { place, after }) {
   state.words.set(key, { ...state.words.get(key), [place.word ?? 0]: after });
 }
 
-// The agreement that a step is on, with its levels or a proposal: the first time that a proposal is chosen for good is kept.
+// The agreement that a step is on, with its levels or a proposal, which in the round 0 of a reduction is an input: the first time that a proposal is chosen for good is kept.
 function noteAgreement(state, { access: { place: { kind, process, round } }, agreement }, at) {
-  if (kind !== 'levels' && kind !== 'view') return;
+  if (kind !== 'levels' && kind !== 'view' && !(kind === 'value' && round === 0)) return;
   const key = keyOf(process, round);
   const known = state.agreements.get(key) ?? { process, round, chosen: null };
   const isChosen = known.chosen === null && agreement !== null && agreement.chosen !== null;
@@ -65,10 +65,11 @@ const levelsOf = (state, room, { process, round }) => wordsAt(state, { kind: 'le
 // An agreement is resolved, so that its result can be read, once a simulator is at level 2 and none is at level 1.
 const isResolved = levels => levels.includes(2) && !levels.includes(1);
 
-// What a simulator proposes: of each process the number of its writes, or null.
+// What a simulator proposes: of each process the number of its writes, or in the round 0 of a reduction the process's input; or null.
 function proposalOf(state, room, simulator, { process, round }) {
+  if (round === 0) return wordsAt(state, { kind: 'value', simulator, process, round }).slice(0, 1).concat([null])[0];
   const rows = wordsAt(state, { kind: 'view', simulator, process, round }).flat();
-  return rows.length === 0 ? null : range(room.inputs.length).map(p => Math.max(...rows.map(row => row[p])));
+  return rows.length === 0 ? null : range(room.processes).map(p => Math.max(...rows.map(row => row[p])));
 }
 
 // The word that some simulator has at a place. All that have it have the same.
@@ -84,7 +85,7 @@ function isReported(state, room, { process, round }) {
 
 // The snapshots that are agreed on, each at the moment at which the chosen proposal was read.
 function snapshotsOf(state, room) {
-  return [...state.agreements.values()].filter(({ chosen }) => chosen !== null).map(agreement => {
+  return [...state.agreements.values()].filter(({ round, chosen }) => round > 0 && chosen !== null).map(agreement => {
     const { process, round, chosen: { simulator, at } } = agreement;
     const shown = proposalOf(state, room, simulator, agreement).map((number, p) => (number === 0 ? '.' : valueOf(state, room, p, number)));
     return { at: state.read.get(keyOf(simulator, process, round)), known: at, process, text: 'snap ' + shown.join(' '), isReported: isReported(state, room, agreement) };

@@ -6,10 +6,10 @@ const simulatorHead = i => headCell('simulator ' + i, `level and proposal of sim
 function stepNumbers(room, state, moment) {
   const touched = (i, p) => moment && (moment.letter === 'S' || (moment.letter === '+' && moment.simulator === i && moment.process === p));
   const decides = i => moment && moment.simulator === i && Number.isInteger(moment.access?.decides);
-  const head = [corner, ...range(room.inputs.length).map(processHead), headCell('decision', DECISION_HINT)];
+  const head = [corner, ...range(room.processes).map(processHead), headCell('decision', DECISION_HINT)];
   const rows = range(room.simulators).map(i => {
     const hasCrashed = state.crashed.has(i);
-    const counts = range(room.inputs.length).map(p => countedBy(state, i, p));
+    const counts = range(room.processes).map(p => countedBy(state, i, p));
     return [headCell(`simulator ${i}${hasCrashed ? ' \u2715' : ''}`, `how many writes of each process simulator ${i} has counted${hasCrashed ? '; it has crashed' : ''}`),
       ...counts.map((number, p) => cell(number, countHint(i, p, number), touched(i, p) && 'now')),
       cell(state.decisions.get(i) ?? '', decisionHint(i, state.decisions.get(i)), decides(i) && 'now')];
@@ -34,8 +34,9 @@ function agreementRow(room, state, moment, agreement) {
   const here = moment && moment.process === process && moment.round === round;
   const cells = range(room.simulators).map(i => {
     const row = proposalOf(state, room, i, agreement);
-    const touched = here && ((moment.simulator === i && 'V120'.includes(moment.letter)) || '?A'.includes(moment.letter));
-    const proposal = row ? ` <span class="row ${chosen && chosen.simulator !== i ? 'lost' : ''}">\u27e8${row.map(number => number || '.').join(' ')}\u27e9</span>` : '';
+    const touched = here && ((moment.simulator === i && (round === 0 ? 'W120' : 'V120').includes(moment.letter)) || '?A'.includes(moment.letter));
+    const entries = Array.isArray(row) ? row.map(number => number || '.').join(' ') : row;
+    const proposal = row === null ? '' : ` <span class="row ${chosen && chosen.simulator !== i ? 'lost' : ''}">\u27e8${entries}\u27e9</span>`;
     const fate = !chosen ? '' : chosen.simulator === i ? '; it is chosen' : '; another one is chosen';
     return cell(`${levels[i]}${proposal}`, levelHint(i, process, round, levels[i], row, fate), 'level' + levels[i], chosen && chosen.simulator === i && 'chosen', touched && 'now');
   });
@@ -62,7 +63,7 @@ function standingOf(room, state, process) {
 
 // The values that processes wrote, by round.
 function values(room, state, moment) {
-  const valued = range(room.inputs.length).map(p => range(room.rounds).map(index => valueOf(state, room, p, index + 1)));
+  const valued = range(room.processes).map(p => range(room.rounds).map(index => valueOf(state, room, p, index + 1)));
   const rounds = Math.max(0, ...valued.map(row => row.findLastIndex(value => value !== undefined) + 1));
   const place = moment?.access?.place;
   const touched = (p, round) => place?.kind === 'value' && place.process === p && place.round === round;
@@ -76,7 +77,7 @@ const eventText = event => escaped(event.text) + (event.isReported ? '' : ' <sma
 
 function processes(room, state) {
   const events = eventsOf(state, room);
-  const rows = range(room.inputs.length).map(p => {
+  const rows = range(room.processes).map(p => {
     const standing = standingOf(room, state, p);
     return [processHead(p), cell(events.filter(event => event.process === p).map(eventText).join('; '), EVENTS_HINT, 'text', 'row'), cell(standing, stateHint(standing), 'text')];
   });

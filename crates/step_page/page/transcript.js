@@ -66,7 +66,7 @@ function readJudged(transcript, answer) {
 }
 
 // The writes of each process among the first events.
-const writesOf = (room, count) => range(room.inputs.length).map(p => room.moments.slice(0, count).filter(moment => moment.process === p && moment.deed === 'write'));
+const writesOf = (room, count) => range(room.processes).map(p => room.moments.slice(0, count).filter(moment => moment.process === p && moment.deed === 'write'));
 const rowOf = writes => writes.map(own => (own.length > 0 ? own[own.length - 1].values[0] : '.')).join(' ');
 
 // What a process may do next after some events that are a run.
@@ -98,13 +98,13 @@ function drawEventBox(room, index, count, x) {
 
 function drawEventLanes(room, count) {
   const first = drawnFrom(room, count);
-  const height = TOP + room.inputs.length * EVENTS + 6;
-  const lanes = range(room.inputs.length).map(p => textAt(2, TOP + p * EVENTS + 15, 'process ' + p, `fill="${hueOf(p)}"`) + `<path d="M 98 ${TOP + p * EVENTS + 10} H ${layout.width}" stroke="var(--rule)"/>`);
+  const height = TOP + room.processes * EVENTS + 6;
+  const lanes = range(room.processes).map(p => textAt(2, TOP + p * EVENTS + 15, 'process ' + p, `fill="${hueOf(p)}"`) + `<path d="M 98 ${TOP + p * EVENTS + 10} H ${layout.width}" stroke="var(--rule)"/>`);
   let x = LEFT;
   let now = LEFT - 3;
   let boxes = '';
   for (let index = first; index < room.moments.length && x < layout.width - 60; index++) {
-    if (room.moments[index].process < room.inputs.length && (isFutureShown || index < count)) boxes += drawEventBox(room, index, count, x);
+    if (room.moments[index].process < room.processes && (isFutureShown || index < count)) boxes += drawEventBox(room, index, count, x);
     x += widthOf(room.moments[index]) + 6;
     if (index < count) now = x - 3;
   }
@@ -127,7 +127,7 @@ const TRANSCRIPT = {
     const writes = writesOf(room, known);
     const moment = room.moments[count - 1];
     const head = [corner, headCell('writes', 'what it has written; the last one is in its cell'), headCell(known < count ? 'could do instead' : 'may do next', 'what the protocol and the memory allow')];
-    const rows = range(room.inputs.length).map(p => [processHead(p), cell(escaped(writes[p].map(write => write.values[0]).join(' ')), `the writes of process ${p}`, 'row', moment && moment.process === p && moment.deed === 'write' && 'now'),
+    const rows = range(room.processes).map(p => [processHead(p), cell(escaped(writes[p].map(write => write.values[0]).join(' ')), `the writes of process ${p}`, 'row', moment && moment.process === p && moment.deed === 'write' && 'now'),
       cell(escaped(nextOf(room, writes, p, known)), `what process ${p} may do`, 'text')]);
     return section('processes', 'Processes', table([head, ...rows]));
   },

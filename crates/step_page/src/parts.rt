@@ -100,10 +100,14 @@ const hueOf = process => `var(--process${process % 8})`;
 // What a block says of its room.
 function readSpec(block) {
   const words = name => (block.find(line => line.startsWith(name + ' ')) || '').split(' ').slice(1);
+  const isReduction = block[0] === 'reduction 1'; // the inputs are those of the simulators
+  const inputs = words('inputs');
   return {
     name: words('room')[0],
-    inputs: words('inputs'),
-    simulators: Number(words('simulators')[0]),
+    isReduction,
+    inputs,
+    processes: isReduction ? Number(words('processes')[0]) : inputs.length,
+    simulators: isReduction ? inputs.length : Number(words('simulators')[0]),
     rounds: Number(words('rounds')[0]),
     turns: Number(words('turns')[0]),
     protocol: block.slice(block.indexOf('protocol') + 1),
@@ -153,7 +157,7 @@ function readReplies(trace) {
 }
 
 // The letter of a step by its line, as in the pictures of `bgview draw`. A step that enters or leaves an agreement has the level that it comes to.
-const LETTERS = { write: 'W', raise: '+', snap: 'S', show: 'V', look: '?', ask: 'A', view: 'G', values: 'r', out: 'D' };
+const LETTERS = { propose: 'W', input: 'r', write: 'W', raise: '+', snap: 'S', show: 'V', look: '?', ask: 'A', view: 'G', values: 'r', out: 'D' };
 const letterOf = ({ simulator, access: { line, after } }) => LETTERS[line] ?? String(after[simulator]);
 
 // A step as a moment of its room. `spent`: the processes of which the trace says at this moment that they are out of rounds.
@@ -220,9 +224,9 @@ function store(state, { place, after }) {
   state.words.set(key, { ...state.words.get(key), [place.word ?? 0]: after });
 }
 
-// The agreement that a step is on, with its levels or a proposal: the first time that a proposal is chosen for good is kept.
+// The agreement that a step is on, with its levels or a proposal, which in the round 0 of a reduction is an input: the first time that a proposal is chosen for good is kept.
 function noteAgreement(state, { access: { place: { kind, process, round } }, agreement }, at) {
-  if (kind !== 'levels' && kind !== 'view') return;
+  if (kind !== 'levels' && kind !== 'view' && !(kind === 'value' && round === 0)) return;
   const key = keyOf(process, round);
   const known = state.agreements.get(key) ?? { process, round, chosen: null };
   const isChosen = known.chosen === null && agreement !== null && agreement.chosen !== null;
@@ -262,10 +266,11 @@ const levelsOf = (state, room, { process, round }) => wordsAt(state, { kind: 'le
 // An agreement is resolved, so that its result can be read, once a simulator is at level 2 and none is at level 1.
 const isResolved = levels => levels.includes(2) && !levels.includes(1);
 
-// What a simulator proposes: of each process the number of its writes, or null.
+// What a simulator proposes: of each process the number of its writes, or in the round 0 of a reduction the process's input; or null.
 function proposalOf(state, room, simulator, { process, round }) {
+  if (round === 0) return wordsAt(state, { kind: 'value', simulator, process, round }).slice(0, 1).concat([null])[0];
   const rows = wordsAt(state, { kind: 'view', simulator, process, round }).flat();
-  return rows.length === 0 ? null : range(room.inputs.length).map(p => Math.max(...rows.map(row => row[p])));
+  return rows.length === 0 ? null : range(room.processes).map(p => Math.max(...rows.map(row => row[p])));
 }
 
 // The word that some simulator has at a place. All that have it have the same.
@@ -281,7 +286,7 @@ function isReported(state, room, { process, round }) {
 
 // The snapshots that are agreed on, each at the moment at which the chosen proposal was read.
 function snapshotsOf(state, room) {
-  return [...state.agreements.values()].filter(({ chosen }) => chosen !== null).map(agreement => {
+  return [...state.agreements.values()].filter(({ round, chosen }) => round > 0 && chosen !== null).map(agreement => {
     const { process, round, chosen: { simulator, at } } = agreement;
     const shown = proposalOf(state, room, simulator, agreement).map((number, p) => (number === 0 ? '.' : valueOf(state, room, p, number)));
     return { at: state.read.get(keyOf(simulator, process, round)), known: at, process, text: 'snap ' + shown.join(' '), isReported: isReported(state, room, agreement) };
@@ -298,14 +303,15 @@ const LEVELS = ['level 0: outside', 'level 1: in the unsafe section', 'level 2: 
 // A row of step numbers in words: how many writes of each process it has.
 const writesIn = row => listed(row.map((number, p) => `${number === 0 ? 'no write' : many(number, 'write')} of process ${p}`));
 
-const agreementHint = (process, round) => `agreement (${process},${round}): on the snapshot of process ${process} in round ${round}`;
+const agreementHint = (process, round) => `agreement (${process},${round}): on the ${round === 0 ? `input of process ${process}` : `snapshot of process ${process} in round ${round}`}`;
 
 const countHint = (simulator, process, number) => `step(${simulator},${process}): simulator ${simulator} has counted ${many(number, 'write')} of process ${process}`;
 
 const DECISION_HINT = 'what a simulator has decided: the first decision of a process that it stored';
 const decisionHint = (simulator, decision) => (decision === undefined ? `simulator ${simulator} has not decided` : `simulator ${simulator} has decided ${decision}`);
 
-const proposalHint = (simulator, row, fate) => (row ? `; it proposes a snapshot with ${writesIn(row)}${fate}` : `; simulator ${simulator} proposes nothing yet`);
+const proposedIn = row => (Array.isArray(row) ? `a snapshot with ${writesIn(row)}` : `the input ${row}`);
+const proposalHint = (simulator, row, fate) => (row === null ? `; simulator ${simulator} proposes nothing yet` : `; it proposes ${proposedIn(row)}${fate}`);
 
 const levelHint = (simulator, process, round, level, row, fate) => `simulator ${simulator} in agreement (${process},${round}): ${LEVELS[level]}${proposalHint(simulator, row, fate)}`;
 
@@ -431,7 +437,7 @@ function drawLanes(room, count) {
   const total = room.moments.length;
   const first = firstDrawn(total, count);
   const top = TOP + room.simulators * LANE + 6;
-  const bottom = top + room.inputs.length * EVENTS;
+  const bottom = top + room.processes * EVENTS;
   const height = bottom + (room.openings.length > 0 ? EVENTS : 0) + 6;
   const width = LEFT + (Math.min(total, layout.columns) + 1) * SQUARE + 60;
   room.events ??= eventsOf(stateAt(room, total), room);
@@ -442,8 +448,8 @@ function drawLanes(room, count) {
     + '<defs><pattern id="hatch" width="7" height="7" patternUnits="userSpaceOnUse" patternTransform="rotate(45)"><rect width="7" height="7" fill="var(--inside)"/><path d="M 0 0 V 7" stroke="var(--hatch)" stroke-width="2"/></pattern></defs>'
     + range(room.simulators).map(i => drawLane(room, i, first, count, TOP + i * LANE)).join('')
     + drawNow(now, height)
-    + range(room.inputs.length).map(p => textAt(2, top + p * EVENTS + 15, 'process ' + p, `fill="${hueOf(p)}"`) + `<path d="M 98 ${top + p * EVENTS + 10} H ${width}" stroke="var(--rule)"/>`).join('')
-    + range(room.inputs.length).map(p => drawEvents(room, events.filter(event => event.process === p), first, count, top + p * EVENTS)).join('')
+    + range(room.processes).map(p => textAt(2, top + p * EVENTS + 15, 'process ' + p, `fill="${hueOf(p)}"`) + `<path d="M 98 ${top + p * EVENTS + 10} H ${width}" stroke="var(--rule)"/>`).join('')
+    + range(room.processes).map(p => drawEvents(room, events.filter(event => event.process === p), first, count, top + p * EVENTS)).join('')
     + (room.openings.length > 0 ? drawOpenings(room, first, count, bottom, width) : '')
     + '</svg>';
 }
@@ -505,7 +511,7 @@ function outcomes(room, count) {
   const openings = room.openings.filter(({ at }) => at <= count);
   if (openings.length === 0) return '';
   const known = [...new Set(openings.flatMap(opening => opening.outcomes ?? []))];
-  const head = [corner, ...range(room.inputs.length).map(processHead), headCell('result', 'whether some schedule of the simulators still leads to it')];
+  const head = [corner, ...range(room.processes).map(processHead), headCell('result', 'whether some schedule of the simulators still leads to it')];
   const rows = known.map((outcome, index) => {
     const standing = standingOfOutcome(openings, outcome);
     const isNow = standing === `closed by step ${count}` && openings.at(-1).at === count;
@@ -523,10 +529,10 @@ const simulatorHead = i => headCell('simulator ' + i, `level and proposal of sim
 function stepNumbers(room, state, moment) {
   const touched = (i, p) => moment && (moment.letter === 'S' || (moment.letter === '+' && moment.simulator === i && moment.process === p));
   const decides = i => moment && moment.simulator === i && Number.isInteger(moment.access?.decides);
-  const head = [corner, ...range(room.inputs.length).map(processHead), headCell('decision', DECISION_HINT)];
+  const head = [corner, ...range(room.processes).map(processHead), headCell('decision', DECISION_HINT)];
   const rows = range(room.simulators).map(i => {
     const hasCrashed = state.crashed.has(i);
-    const counts = range(room.inputs.length).map(p => countedBy(state, i, p));
+    const counts = range(room.processes).map(p => countedBy(state, i, p));
     return [headCell(`simulator ${i}${hasCrashed ? ' \u2715' : ''}`, `how many writes of each process simulator ${i} has counted${hasCrashed ? '; it has crashed' : ''}`),
       ...counts.map((number, p) => cell(number, countHint(i, p, number), touched(i, p) && 'now')),
       cell(state.decisions.get(i) ?? '', decisionHint(i, state.decisions.get(i)), decides(i) && 'now')];
@@ -551,8 +557,9 @@ function agreementRow(room, state, moment, agreement) {
   const here = moment && moment.process === process && moment.round === round;
   const cells = range(room.simulators).map(i => {
     const row = proposalOf(state, room, i, agreement);
-    const touched = here && ((moment.simulator === i && 'V120'.includes(moment.letter)) || '?A'.includes(moment.letter));
-    const proposal = row ? ` <span class="row ${chosen && chosen.simulator !== i ? 'lost' : ''}">\u27e8${row.map(number => number || '.').join(' ')}\u27e9</span>` : '';
+    const touched = here && ((moment.simulator === i && (round === 0 ? 'W120' : 'V120').includes(moment.letter)) || '?A'.includes(moment.letter));
+    const entries = Array.isArray(row) ? row.map(number => number || '.').join(' ') : row;
+    const proposal = row === null ? '' : ` <span class="row ${chosen && chosen.simulator !== i ? 'lost' : ''}">\u27e8${entries}\u27e9</span>`;
     const fate = !chosen ? '' : chosen.simulator === i ? '; it is chosen' : '; another one is chosen';
     return cell(`${levels[i]}${proposal}`, levelHint(i, process, round, levels[i], row, fate), 'level' + levels[i], chosen && chosen.simulator === i && 'chosen', touched && 'now');
   });
@@ -579,7 +586,7 @@ function standingOf(room, state, process) {
 
 // The values that processes wrote, by round.
 function values(room, state, moment) {
-  const valued = range(room.inputs.length).map(p => range(room.rounds).map(index => valueOf(state, room, p, index + 1)));
+  const valued = range(room.processes).map(p => range(room.rounds).map(index => valueOf(state, room, p, index + 1)));
   const rounds = Math.max(0, ...valued.map(row => row.findLastIndex(value => value !== undefined) + 1));
   const place = moment?.access?.place;
   const touched = (p, round) => place?.kind === 'value' && place.process === p && place.round === round;
@@ -593,7 +600,7 @@ const eventText = event => escaped(event.text) + (event.isReported ? '' : ' <sma
 
 function processes(room, state) {
   const events = eventsOf(state, room);
-  const rows = range(room.inputs.length).map(p => {
+  const rows = range(room.processes).map(p => {
     const standing = standingOf(room, state, p);
     return [processHead(p), cell(events.filter(event => event.process === p).map(eventText).join('; '), EVENTS_HINT, 'text', 'row'), cell(standing, stateHint(standing), 'text')];
   });
@@ -687,7 +694,7 @@ function readJudged(transcript, answer) {
 }
 
 // The writes of each process among the first events.
-const writesOf = (room, count) => range(room.inputs.length).map(p => room.moments.slice(0, count).filter(moment => moment.process === p && moment.deed === 'write'));
+const writesOf = (room, count) => range(room.processes).map(p => room.moments.slice(0, count).filter(moment => moment.process === p && moment.deed === 'write'));
 const rowOf = writes => writes.map(own => (own.length > 0 ? own[own.length - 1].values[0] : '.')).join(' ');
 
 // What a process may do next after some events that are a run.
@@ -719,13 +726,13 @@ function drawEventBox(room, index, count, x) {
 
 function drawEventLanes(room, count) {
   const first = drawnFrom(room, count);
-  const height = TOP + room.inputs.length * EVENTS + 6;
-  const lanes = range(room.inputs.length).map(p => textAt(2, TOP + p * EVENTS + 15, 'process ' + p, `fill="${hueOf(p)}"`) + `<path d="M 98 ${TOP + p * EVENTS + 10} H ${layout.width}" stroke="var(--rule)"/>`);
+  const height = TOP + room.processes * EVENTS + 6;
+  const lanes = range(room.processes).map(p => textAt(2, TOP + p * EVENTS + 15, 'process ' + p, `fill="${hueOf(p)}"`) + `<path d="M 98 ${TOP + p * EVENTS + 10} H ${layout.width}" stroke="var(--rule)"/>`);
   let x = LEFT;
   let now = LEFT - 3;
   let boxes = '';
   for (let index = first; index < room.moments.length && x < layout.width - 60; index++) {
-    if (room.moments[index].process < room.inputs.length && (isFutureShown || index < count)) boxes += drawEventBox(room, index, count, x);
+    if (room.moments[index].process < room.processes && (isFutureShown || index < count)) boxes += drawEventBox(room, index, count, x);
     x += widthOf(room.moments[index]) + 6;
     if (index < count) now = x - 3;
   }
@@ -748,7 +755,7 @@ const TRANSCRIPT = {
     const writes = writesOf(room, known);
     const moment = room.moments[count - 1];
     const head = [corner, headCell('writes', 'what it has written; the last one is in its cell'), headCell(known < count ? 'could do instead' : 'may do next', 'what the protocol and the memory allow')];
-    const rows = range(room.inputs.length).map(p => [processHead(p), cell(escaped(writes[p].map(write => write.values[0]).join(' ')), `the writes of process ${p}`, 'row', moment && moment.process === p && moment.deed === 'write' && 'now'),
+    const rows = range(room.processes).map(p => [processHead(p), cell(escaped(writes[p].map(write => write.values[0]).join(' ')), `the writes of process ${p}`, 'row', moment && moment.process === p && moment.deed === 'write' && 'now'),
       cell(escaped(nextOf(room, writes, p, known)), `what process ${p} may do`, 'text')]);
     return section('processes', 'Processes', table([head, ...rows]));
   },
@@ -784,7 +791,8 @@ function differenceText(rooms) {
 }
 
 function panelOf(room) {
-  const about = `${many(room.inputs.length, 'process')}, inputs ${room.inputs.join(' ')}; ${many(room.simulators, 'simulator')}; ${many(room.rounds, 'round')}`;
+  const inputs = `, inputs ${room.inputs.join(' ')}`;
+  const about = `${many(room.processes, 'process')}${room.isReduction ? '' : inputs}; ${many(room.simulators, 'simulator')}${room.isReduction ? inputs : ''}; ${many(room.rounds, 'round')}`;
   return `<section class="run"><header><h1>${escaped(room.name)}</h1><p class="about">${escaped(about)}</p><code class="protocol">${escaped(room.protocol.join(' '))}</code></header>`
     + '<div class="sentence" role="status" aria-live="polite"></div><div class="lanes"></div><div class="tables"></div></section>';
 }

@@ -12,14 +12,14 @@ use Rattle.room_spec.specs.Rooms.{RoomSpec, processes}
 use Rattle.view_table.specs.declared.place.Place.{Place}
 use Rattle.view_table.specs.declared.place.Place.TheVariants.{Memory, Levels, View, Value, Out}
 use Rattle.simulator.specs.declared.goal.Goal.{Goal}
-use Rattle.simulator.specs.declared.goal.Goal.TheVariants.{Write, Ask, Done, Spent}
+use Rattle.simulator.specs.declared.goal.Goal.TheVariants.{Write, Ask, Propose, AskInput, Done, Spent}
 use Rattle.room_steps.specs.declared.step.AtomicStep.{AtomicStep}
 use Rattle.ws_history.specs.declared.effects.Effect.{Effect}
 use Rattle.ws_history.specs.declared.effects.Effect.TheVariants.{Write as WriteEffect, Snapshot, Decision}
 use Rattle.ws_history.specs.declared.unreadable.Unreadable.{Unreadable}
 use Rattle.step_words.specs.Data.{decides_data, own_step_data, own_steps_data, access_data, place_data, steps_data, word_data}
 use Rattle.step_words.specs.Json.{agreement_data, agreement_of, decision_note, effect_data, effect_note, end_data, end_note, notes_data, obstacle_note, quiet_data, shows_data, simulator_data, simulators_data, step_data, unresolved_data}
-use Rattle.step_words.specs.Lines.{decision_text, effect_text, outcome_text, unreadable_text}
+use Rattle.step_words.specs.Lines.{decision_text, effect_text, ending_text, unreadable_text}
 use Rattle.step_words.specs.declared.step.Consequence.{Consequence}
 use Rattle.step_words.specs.Names.{operation_text}
 use Rattle.step_words.specs.Sights.{memory_with, sight_text}
@@ -66,9 +66,9 @@ decision_note_is : (simulator : ℕ) (decision : Option ℕ) → has_float (deci
 decision_note_is simulator None = refl
 decision_note_is simulator (Some decision) = text_is (decision_text simulator decision)
 
-end_note_is : (process : ℕ) (end : Option Goal) → has_float (end_note process end) ≡ false
-end_note_is process None = refl
-end_note_is process (Some goal) = text_is (outcome_text process goal)
+end_note_is : (step : AtomicStep) (end : Option Goal) → has_float (end_note step end) ≡ false
+end_note_is step None = refl
+end_note_is step (Some goal) = text_is (ending_text step.line step goal)
 
 obstacle_note_is : (unreadable : Option Unreadable) → has_float (obstacle_note unreadable) ≡ false
 obstacle_note_is None = refl
@@ -77,11 +77,11 @@ obstacle_note_is (Some agreement) = text_is (unreadable_text agreement)
 notes_are : (step : AtomicStep) (consequence : Consequence) → has_float (notes_data step consequence) ≡ false
 notes_are step consequence =
     let effect = has_float (effect_note consequence.effect) in
-    let one = has_float (end_note step.process step.end) in
+    let one = has_float (end_note step step.end) in
     let other = has_float (obstacle_note consequence.unreadable) in
     both (has_float (decision_note step.simulator step.decision)) (effect || (one || (other || false))) (decision_note_is step.simulator step.decision)
     (both effect (one || (other || false)) (effect_note_is consequence.effect)
-    (both one (other || false) (end_note_is step.process step.end) (both other false (obstacle_note_is consequence.unreadable) refl)))
+    (both one (other || false) (end_note_is step step.end) (both other false (obstacle_note_is consequence.unreadable) refl)))
 
 quiet_is : (round : ℕ) (unreadable : Option Unreadable) → has_float (quiet_data round unreadable) ≡ false
 quiet_is round None = unresolved_is round None None None
@@ -91,6 +91,8 @@ end_is : (end : Option Goal) (unreadable : Option Unreadable) → has_float (end
 end_is None unreadable = refl
 end_is (Some (Write round value)) unreadable = refl
 end_is (Some (Ask round)) unreadable = quiet_is round unreadable
+end_is (Some (Propose value)) unreadable = refl
+end_is (Some AskInput) unreadable = quiet_is 0 unreadable
 end_is (Some Done) unreadable = refl
 end_is (Some Spent) unreadable = refl
 

@@ -3,3 +3,4 @@ mod Floats
 mod Numbers
 mod Objects
 mod Within
+mod WorkedReductions

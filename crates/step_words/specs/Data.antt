@@ -1,5 +1,5 @@
 -- An atomic step as data: the line of its turn, its place, and what the simulation reads in the word there.
-use Rattle.std.specs.Prelude.{ℕ, ◌-◌, ◌==◌, List, map, Option, Some, None, codes, if◌then◌else◌}
+use Rattle.std.specs.Prelude.{ℕ, zero, suc, ◌-◌, ◌==◌, List, map, Option, Some, None, codes, if◌then◌else◌}
 use Rattle.std.specs.List.{range_with_len}
 use Rattle.serde_json.specs.Data.{Data, array, member, no_members, null, object, string}
 use Rattle.serde_json.specs.View.{items_of}
@@ -19,23 +19,29 @@ use Rattle.step_words.specs.Sights.{memory_with}
 
 -- ---- the line
 
--- a turn's first step asks if it loads, and stores a write if it doesn't
-abbrev pub first_word : Move → List ℕ
-first_word (Load index) = codes "ask"
-first_word operation = codes "write"
+-- a value is stored for a write, or in round 0 as a proposal of an input
+abbrev pub store_word : ℕ → List ℕ
+store_word zero = codes "propose"
+store_word (suc round) = codes "write"
 
-abbrev pub line_word : Line → Move → List ℕ
-line_word lines.Rest operation = first_word operation
-line_word lines.Raise operation = codes "raise"
-line_word lines.Snap operation = codes "snap"
-line_word lines.Show operation = codes "show"
-line_word lines.Enter operation = codes "enter"
-line_word lines.Look operation = codes "look"
-line_word (lines.Leave saw_two) operation = codes "leave"
-line_word lines.Ask operation = codes "ask"
-line_word (lines.GetView chosen) operation = codes "view"
-line_word lines.Values operation = codes "values"
-line_word (lines.Out decision) operation = codes "out"
+-- a turn's first step asks if it loads, and stores a value if it doesn't
+abbrev pub first_word : Move → ℕ → List ℕ
+first_word (Load index) round = codes "ask"
+first_word operation round = store_word round
+
+abbrev pub line_word : Line → Move → ℕ → List ℕ
+line_word lines.Rest operation round = first_word operation round
+line_word lines.Raise operation round = codes "raise"
+line_word lines.Snap operation round = codes "snap"
+line_word lines.Show operation round = codes "show"
+line_word lines.Enter operation round = codes "enter"
+line_word lines.Look operation round = codes "look"
+line_word (lines.Leave saw_two) operation round = codes "leave"
+line_word lines.Ask operation round = codes "ask"
+line_word (lines.GetInput chosen) operation round = codes "input"
+line_word (lines.GetView chosen) operation round = codes "view"
+line_word lines.Values operation round = codes "values"
+line_word (lines.Out decision) operation round = codes "out"
 
 -- ---- the place
 
@@ -83,4 +89,4 @@ decides_data (Some decision) = number_data decision
 unfoldable pub access_data : RoomSpec → AtomicStep → Data
 access_data spec step =
     object (member (codes "after") (word_data step.place spec step.after) (member (codes "before") (word_data step.place spec step.word) (member (codes "decides") (decides_data step.decision)
-    (member (codes "line") (string (line_word step.line step.operation)) (member (codes "place") (place_data step.place) no_members)))))
+    (member (codes "line") (string (line_word step.line step.operation step.round)) (member (codes "place") (place_data step.place) no_members)))))

@@ -9,13 +9,13 @@ use Rattle.safe_agreement.specs.Levels.{resolved_of}
 use Rattle.view_table.specs.declared.place.Place.{Place}
 use Rattle.view_table.specs.declared.place.Place.TheVariants.{Memory, Levels, View, Value, Out}
 use Rattle.simulator.specs.declared.goal.Goal.{Goal}
-use Rattle.simulator.specs.declared.goal.Goal.TheVariants.{Write, Ask, Done, Spent}
+use Rattle.simulator.specs.declared.goal.Goal.TheVariants.{Write, Ask, Propose, AskInput, Done, Spent}
 use Rattle.room_steps.specs.declared.step.AtomicStep.{AtomicStep}
 use Rattle.ws_history.specs.declared.effects.Effect.{Effect}
 use Rattle.ws_history.specs.declared.effects.Effect.TheVariants.{Write as WriteEffect, Snapshot, Decision}
 use Rattle.ws_history.specs.declared.unreadable.Unreadable.{Unreadable}
 use Rattle.step_words.specs.Data.{access_data}
-use Rattle.step_words.specs.Lines.{decision_text, effect_text, outcome_text, unreadable_text}
+use Rattle.step_words.specs.Lines.{decision_text, effect_text, ending_text, unreadable_text}
 use Rattle.step_words.specs.Names.{operation_text}
 use Rattle.step_words.specs.Sights.{sight_text}
 use Rattle.step_words.specs.declared.json.Parts.{Parts}
@@ -48,6 +48,8 @@ abbrev pub end_data : Option Goal → Option Unreadable → Data
 end_data None agreement = null
 end_data (Some (Write round value)) agreement = object (member (codes "state") (string (codes "writes")) (member (codes "turn") (string (codes "useful")) (member (codes "value") (number (unsigned value)) no_members)))
 end_data (Some (Ask round)) agreement = quiet_data round agreement
+end_data (Some (Propose value)) agreement = object (member (codes "state") (string (codes "proposes")) (member (codes "turn") (string (codes "useful")) (member (codes "value") (number (unsigned value)) no_members)))
+end_data (Some AskInput) agreement = quiet_data 0 agreement
 end_data (Some Done) agreement = object (member (codes "state") (string (codes "decided")) (member (codes "turn") (string (codes "useful")) no_members))
 end_data (Some Spent) agreement = object (member (codes "state") (string (codes "spent")) (member (codes "turn") (string (codes "useful")) no_members))
 
@@ -82,9 +84,9 @@ abbrev pub decision_note : ℕ → Option ℕ → Data
 decision_note simulator None = null
 decision_note simulator (Some decision) = text_data (decision_text simulator decision)
 
-abbrev pub end_note : ℕ → Option Goal → Data
-end_note process None = null
-end_note process (Some goal) = text_data (outcome_text process goal)
+abbrev pub end_note : AtomicStep → Option Goal → Data
+end_note step None = null
+end_note step (Some goal) = text_data (ending_text step.line step goal)
 
 abbrev pub obstacle_note : Option Unreadable → Data
 obstacle_note None = null
@@ -93,7 +95,7 @@ obstacle_note (Some agreement) = text_data (unreadable_text agreement)
 abbrev pub notes_data : AtomicStep → Consequence → Data
 notes_data step consequence =
     object (member (codes "decision") (decision_note step.simulator step.decision) (member (codes "effect") (effect_note consequence.effect)
-    (member (codes "end") (end_note step.process step.end) (member (codes "obstacle") (obstacle_note consequence.unreadable) no_members))))
+    (member (codes "end") (end_note step step.end) (member (codes "obstacle") (obstacle_note consequence.unreadable) no_members))))
 
 -- what its word shows, without the space before it
 abbrev pub shows_data : RoomSpec → AtomicStep → Data

@@ -1,10 +1,12 @@
 -- The lines that describe an atomic step.
-use Rattle.std.specs.Prelude.{ℕ, ◌<◌, List, [], ◌++◌, Bool, true, false, Option, Some, None, codes, decimal}
+use Rattle.std.specs.Prelude.{ℕ, ◌<◌, ◌-◌, ◌^◌, min, List, [], ◌++◌, Bool, true, false, Option, Some, None, codes, decimal}
 use Rattle.room_spec.specs.Rooms.{RoomSpec, processes}
 use Rattle.room_spec.specs.Sizes.{sizes_in}
 use Rattle.view_table.specs.Places.{IsPlace}
 use Rattle.simulator.specs.declared.goal.Goal.{Goal}
-use Rattle.simulator.specs.declared.goal.Goal.TheVariants.{Write, Ask, Done, Spent}
+use Rattle.simulator.specs.declared.goal.Goal.TheVariants.{Write, Ask, Propose, AskInput, Done, Spent}
+use Rattle.simulator.specs.declared.line.Line.{Line}
+use Rattle.simulator.specs.declared.line.Line.TheVariants.{GetInput}
 use Rattle.room_steps.specs.declared.step.AtomicStep.{AtomicStep}
 use Rattle.ws_history.specs.declared.effects.Effect.{Effect}
 use Rattle.ws_history.specs.declared.effects.Effect.TheVariants.{Write as WriteEffect, Snapshot, Decision}
@@ -38,13 +40,25 @@ turn_text step false = turn_name step
 abbrev pub outcome_text : ℕ → Goal → List ℕ
 outcome_text process (Write round value) = behind (codes "useful: process") process ++ between (codes " writes") value (codes " next")
 outcome_text process (Ask round) = behind (codes "quiet: the agreement of process") process ++ between (codes ", round") round (codes " is not resolved")
+outcome_text process (Propose value) = behind (codes "useful: process") process ++ between (codes " proposes the input") value (codes " next")
+outcome_text process AskInput = between (codes "quiet: the input of process") process (codes " is not agreed on")
 outcome_text process Done = between (codes "useful: process") process (codes " has decided")
 outcome_text process Spent = between (codes "useful: process") process (codes " is spent")
 
+-- the input that a process has from now on, and which simulator's it is
+abbrev pub input_text : ℕ → ℕ → ℕ → List ℕ
+input_text process input simulator = behind (codes "useful: process") process ++ (behind (codes " has the input") input ++ behind (codes " of simulator") simulator)
+
+-- how a turn ended, by the line of its last step: that loads the input that was agreed on (a greater number is read as the greatest input), or else
+-- what is left to do says it
+abbrev pub ending_text : Line → AtomicStep → Goal → List ℕ
+ending_text (GetInput chosen) step goal = input_text step.process (min step.word (2 ^ 32 - 1)) chosen
+ending_text line step goal = outcome_text step.process goal
+
 -- a line for the end of a turn
-abbrev pub end_text : ℕ → Option Goal → List ℕ
-end_text process None = []
-end_text process (Some goal) = codes "         " ++ (outcome_text process goal ++ codes "\n")
+abbrev pub end_text : AtomicStep → Option Goal → List ℕ
+end_text step None = []
+end_text step (Some goal) = codes "         " ++ (ending_text step.line step goal ++ codes "\n")
 
 -- a process does this with a value
 abbrev pub here_text : ℕ → List ℕ → ℕ → List ℕ
@@ -93,7 +107,7 @@ unreadable_line (Some agreement) = codes "         " ++ (unreadable_text agreeme
 -- the lines under a step
 abbrev pub notes_lines : AtomicStep → Consequence → List ℕ
 notes_lines step consequence =
-    effect_line consequence.effect ++ (decision_line step.simulator step.decision ++ (end_text step.process step.end ++ unreadable_line consequence.unreadable))
+    effect_line consequence.effect ++ (decision_line step.simulator step.decision ++ (end_text step step.end ++ unreadable_line consequence.unreadable))
 
 -- The step's number, its turn where that begins, its operation, and what there is to see; what takes effect; what its simulator decides; the end of the
 -- turn; and, if that was quiet, why the agreement can't be read.

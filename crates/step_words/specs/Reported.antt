@@ -7,7 +7,7 @@ use Rattle.room_core.specs.Fields.{Fields}
 use Rattle.room_core.specs.Reading.{AreFieldsOf}
 use Rattle.room_core.specs.Rooms.{IsOneInterleaving, ScheduleEvent, crashes, steps}
 use Rattle.simulator.specs.declared.goal.Goal.{Goal}
-use Rattle.simulator.specs.declared.goal.Goal.TheVariants.{Write, Ask, Done, Spent}
+use Rattle.simulator.specs.declared.goal.Goal.TheVariants.{Write, Ask, Propose, AskInput, Done, Spent}
 use Rattle.room_steps.specs.Steps.{IsStepOf}
 use Rattle.room_steps.specs.declared.step.AtomicStep.{AtomicStep}
 use Rattle.ws_history.specs.Effects.{IsEffectOf}
@@ -60,6 +60,8 @@ abbrev pub asked_of : RoomSpec → Fields → ℕ → Option Goal → Option Unr
 asked_of spec fields process None = None
 asked_of spec fields process (Some (Ask round)) = unreadable_of spec fields process round
 asked_of spec fields process (Some (Write round value)) = None
+asked_of spec fields process (Some (Propose value)) = None
+asked_of spec fields process (Some AskInput) = unreadable_of spec fields process 0
 asked_of spec fields process (Some Done) = None
 asked_of spec fields process (Some Spent) = None
 

@@ -1,5 +1,5 @@
 -- What there is to see at an atomic step: the word that was loaded or written, decoded.
-use Rattle.std.specs.Prelude.{ℕ, ◌+◌, ◌-◌, List, [], ◌∷◌, ◌++◌, Option, Some, None, map, replicate, slice_set, codes, decimal, ◌==◌, if◌then◌else◌}
+use Rattle.std.specs.Prelude.{ℕ, zero, suc, ◌+◌, ◌-◌, List, [], ◌∷◌, ◌++◌, Option, Some, None, map, replicate, slice_set, codes, decimal, ◌==◌, if◌then◌else◌}
 use Rattle.std.specs.List.{concat, range_with_len}
 use Rattle.io_text.specs.Numbers.{numbers_text}
 use Rattle.room_spec.specs.Rooms.{RoomSpec, processes}
@@ -72,9 +72,14 @@ loaded_text (Levels process round) spec step = levels_text step.line (levels_of 
 loaded_text (Value simulator process round) spec step = 32 ∷ decimal step.word
 loaded_text (Out simulator process) spec step = 32 ∷ decimal step.word
 
+-- what a process writes, or in round 0 what a simulator proposes as its input
+abbrev pub value_text : ℕ → ℕ → ℕ → List ℕ
+value_text process zero number = behind (codes " proposes") number ++ behind (codes " as the input of process") process
+value_text process (suc round) number = behind (codes " process") process ++ behind (codes " writes") number
+
 abbrev pub written_text : Place → RoomSpec → ℕ → List ℕ
 written_text (View simulator process round word) spec number = row_text spec word number
-written_text (Value simulator process round) spec number = behind (codes " process") process ++ behind (codes " writes") number
+written_text (Value simulator process round) spec number = value_text process round number
 written_text (Out simulator process) spec number = behind (codes " process") process ++ behind (codes " decides") (number - 1)
 written_text (Memory word) spec number = []
 written_text (Levels process round) spec number = []

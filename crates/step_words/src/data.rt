@@ -3,7 +3,7 @@ ghost use Rattle.std.specs.Prelude.{◌≡◌, ◌<◌, ◌≤◌, IfOk, length}
 ghost use Rattle.serde_json.specs.View.{view};
 ghost use Rattle.room_spec.specs.Sizes.{memory_words, sizes_in};
 ghost use Rattle.view_table.specs.Places.{IsPlace};
-ghost use Rattle.step_words.specs.Data.{decides_data, decision_data, first_word, line_word, own_steps_data, access_data, place_data, steps_data, word_data};
+ghost use Rattle.step_words.specs.Data.{decides_data, decision_data, first_word, line_word, own_steps_data, access_data, place_data, steps_data, store_word, word_data};
 ghost use Rattle.step_words.specs.Lines.{IsStepIn};
 
 use crate::sight::memory_with;
@@ -17,12 +17,12 @@ use simulator::{Line, Move};
 use std::alloc::{AllocError, Global};
 use view_table::Place;
 
-/// The line of the turn, in a word. The first step of a turn asks if it loads, and stores a write if it doesn't.
-fn line_word(line: Line, operation: Move) -> &'static str
-    ensures { result.now ≡ line_word line operation }
+/// The line of the turn, in a word.
+fn line_word(line: Line, operation: Move, round: u8) -> &'static str
+    ensures { result.now ≡ line_word line operation round }
 {
     match line {
-        Line::Rest => first_word(operation),
+        Line::Rest => first_word(operation, round),
         Line::Raise => "raise",
         Line::Snap => "snap",
         Line::Show => "show",
@@ -30,19 +30,28 @@ fn line_word(line: Line, operation: Move) -> &'static str
         Line::Look => "look",
         Line::Leave { .. } => "leave",
         Line::Ask => "ask",
+        Line::GetInput { .. } => "input",
         Line::GetView { .. } => "view",
         Line::Values => "values",
         Line::Out { .. } => "out",
     }
 }
 
-fn first_word(operation: Move) -> &'static str
-    ensures { result.now ≡ first_word operation }
+/// The first step of a turn asks if it loads, and stores a value if it doesn't.
+fn first_word(operation: Move, round: u8) -> &'static str
+    ensures { result.now ≡ first_word operation round }
 {
     match operation {
         Move::Load(_) => "ask",
-        _ => "write",
+        _ => store_word(round),
     }
+}
+
+/// A value is stored for a write, or in round 0 as a proposal of an input.
+fn store_word(round: u8) -> &'static str
+    ensures { result.now ≡ store_word round }
+{
+    if round == 0 { "propose" } else { "write" }
 }
 
 /// The place of a word: its kind, and its numbers by their names.
@@ -104,7 +113,7 @@ pub(crate) fn access_value(
 {
     let after = word_value(alloc, spec, step.place, step.after)?;
     let before = word_value(alloc, spec, step.place, step.word)?;
-    let line = line_word(step.line, step.operation);
+    let line = line_word(step.line, step.operation, step.round);
     let place = place_value(alloc, step.place)?;
     let decides = decides_value(step.decision);
     json!(in alloc; {"after": after, "before": before, "decides": decides, "line": line, "place": place})

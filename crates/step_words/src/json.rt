@@ -203,6 +203,10 @@ fn end_value(
             json!(in alloc; {"state": "writes", "turn": "useful", "value": value})
         }
         Some(Goal::Ask { round }) => quiet_value(alloc, round, unreadable),
+        Some(Goal::Propose { value }) => {
+            json!(in alloc; {"state": "proposes", "turn": "useful", "value": value})
+        }
+        Some(Goal::AskInput) => quiet_value(alloc, 0, unreadable),
         Some(Goal::Done) => json!(in alloc; {"state": "decided", "turn": "useful"}),
         Some(Goal::Spent) => json!(in alloc; {"state": "spent", "turn": "useful"}),
     }

@@ -4,7 +4,7 @@ ghost use Rattle.serde_json.specs.View.{view};
 ghost use Rattle.step_words.specs.Json.{decision_note, effect_note, end_note, notes_data, obstacle_note};
 
 use crate::step::{
-    Consequence, write_decision_words, write_effect_words, write_outcome, write_unreadable_words,
+    Consequence, write_decision_words, write_effect_words, write_ending, write_unreadable_words,
 };
 use io_text::Text;
 use json_lines::text_value;
@@ -24,7 +24,7 @@ pub(crate) fn notes_value(
 {
     let decision = decision_note(alloc, step.simulator, step.decision)?;
     let effect = effect_note(alloc, consequence.effect)?;
-    let end = end_note(alloc, step.process, step.end)?;
+    let end = end_note(alloc, step, step.end)?;
     let obstacle = obstacle_note(alloc, consequence.unreadable)?;
     json!(in alloc; {"decision": decision, "effect": effect, "end": end, "obstacle": obstacle})
 }
@@ -55,14 +55,14 @@ fn effect_note(alloc: Global, effect: Option<Effect>) -> Result<Value, AllocErro
     text_value(alloc, words.as_bytes())
 }
 
-fn end_note(alloc: Global, process: usize, end: Option<Goal>) -> Result<Value, AllocError>
-    ensures { IfOk result (λ value. view value ≡ end_note process end) }
+fn end_note(alloc: Global, step: &AtomicStep, end: Option<Goal>) -> Result<Value, AllocError>
+    ensures { IfOk result (λ value. view value ≡ end_note step.now end) }
 {
     let Some(goal) = end else {
         return Ok(Value::Null);
     };
     let mut words = Text::new(alloc);
-    write_outcome(&mut words, process as u64, goal)?;
+    write_ending(&mut words, step, goal)?;
     text_value(alloc, words.as_bytes())
 }
 

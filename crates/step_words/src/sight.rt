@@ -9,7 +9,7 @@ ghost use Rattle.level_cells.specs.Fields.{level_of, levels_of};
 ghost use Rattle.sim_memory.specs.Steps.{step_in};
 ghost use Rattle.step_words.specs.Lines.{IsStepIn};
 ghost use Rattle.step_words.specs.Sights.{added_text, chosen_text, counts_text, entered_text, entry_text, levels_say, levels_text, loaded_text, memory_with, raised_text};
-ghost use Rattle.step_words.specs.Sights.{row_text, shown_in, sight_text, withdrawn_text, written_text};
+ghost use Rattle.step_words.specs.Sights.{row_text, shown_in, sight_text, value_text, withdrawn_text, written_text};
 
 use crate::pieces::{write_between, write_number};
 use io_text::Text;
@@ -65,9 +65,8 @@ fn write_written(
 {
     match place {
         Place::View { word, .. } => write_row(output, spec, word, number),
-        Place::Value { process, .. } => {
-            write_number(output, b" process", process as u64)?;
-            write_number(output, b" writes", number)
+        Place::Value { process, round, .. } => {
+            write_value(output, process as u64, round as u64, number)
         }
         Place::Out { process, .. } => {
             write_number(output, b" process", process as u64)?;
@@ -75,6 +74,18 @@ fn write_written(
         }
         Place::Memory { .. } | Place::Levels { .. } => Ok(()),
     }
+}
+
+/// Writes what a process writes, or in round 0 what a simulator proposes as its input.
+fn write_value(output: &mut Text, process: u64, round: u64, number: u64) -> Result<(), AllocError>
+    ensures { OnOk result (output.new ≡ output.old ++ value_text process round number) }
+{
+    if round == 0 {
+        write_number(output, b" proposes", number)?;
+        return write_number(output, b" as the input of process", process);
+    }
+    write_number(output, b" process", process)?;
+    write_number(output, b" writes", number)
 }
 
 fn write_added(output: &mut Text, spec: &Spec, step: &AtomicStep) -> Result<(), AllocError>

@@ -1,6 +1,6 @@
 //! The lines of an atomic step.
 ghost use Rattle.std.specs.Prelude.{◌≡◌, ◌++◌, OnOk, codes, decimal};
-ghost use Rattle.step_words.specs.Lines.{IsStepIn, choice_text, decision_line, decision_text, effect_line, effect_text, end_text, here_text, notes_lines, number_width, obstacle_text, operation_width, outcome_text, step_lines, turn_name, turn_text, turn_width, unreadable_line, unreadable_text};
+ghost use Rattle.step_words.specs.Lines.{IsStepIn, choice_text, decision_line, decision_text, effect_line, effect_text, end_text, ending_text, here_text, input_text, notes_lines, number_width, obstacle_text, operation_width, outcome_text, step_lines, turn_name, turn_text, turn_width, unreadable_line, unreadable_text};
 ghost use Rattle.step_words.specs.Names.{operation_text};
 ghost use Rattle.step_words.specs.Pieces.{behind, between, padded};
 
@@ -10,7 +10,7 @@ use crate::sight::write_sight;
 use io_text::Text;
 use room_spec::Spec;
 use room_steps::AtomicStep;
-use simulator::Goal;
+use simulator::{Goal, Line};
 use std::alloc::AllocError;
 use ws_history::{Effect, Unreadable};
 
@@ -80,7 +80,7 @@ fn write_notes(
 {
     write_effect(output, consequence.effect)?;
     write_decision(output, step.simulator, step.decision)?;
-    write_end(output, step.process, step.end)?;
+    write_end(output, step, step.end)?;
     write_unreadable(output, consequence.unreadable)
 }
 
@@ -191,23 +191,62 @@ fn write_padded_operation(
 }
 
 /// Writes how the turn ended, if it has ended.
-fn write_end(output: &mut Text, process: usize, end: Option<Goal>) -> Result<(), AllocError>
-    ensures { OnOk result (output.new ≡ output.old ++ end_text process end) }
+fn write_end(output: &mut Text, step: &AtomicStep, end: Option<Goal>) -> Result<(), AllocError>
+    ensures { OnOk result (output.new ≡ output.old ++ end_text step.now end) }
 {
     let Some(goal) = end else {
         return Ok(());
     };
     output.put(b"         ")?;
-    write_outcome(output, process as u64, goal)?;
+    write_ending(output, step, goal)?;
     output.put(b"\n")
 }
 
-pub(crate) fn write_outcome(output: &mut Text, process: u64, goal: Goal) -> Result<(), AllocError>
+/// Writes how the turn of this last step ended: the input that it loaded, or else what is left to do.
+pub(crate) fn write_ending(
+    output: &mut Text,
+    step: &AtomicStep,
+    goal: Goal,
+) -> Result<(), AllocError>
+    ensures { OnOk result (output.new ≡ output.old ++ ending_text step.now.line step.now goal) }
+{
+    let process = step.process as u64;
+    match step.line {
+        Line::GetInput { chosen } => {
+            let input = step.word.min(u64::from(u32::MAX));
+            write_input(output, process, input, u64::from(chosen))
+        }
+        _ => write_outcome(output, process, goal),
+    }
+}
+
+/// Writes the input that a process has from now on, and which simulator's it is.
+fn write_input(
+    output: &mut Text,
+    process: u64,
+    input: u64,
+    simulator: u64,
+) -> Result<(), AllocError>
+    ensures { OnOk result (output.new ≡ output.old ++ input_text process input simulator) }
+{
+    write_number(output, b"useful: process", process)?;
+    write_number(output, b" has the input", input)?;
+    write_number(output, b" of simulator", simulator)
+}
+
+fn write_outcome(output: &mut Text, process: u64, goal: Goal) -> Result<(), AllocError>
     ensures { OnOk result (output.new ≡ output.old ++ outcome_text process goal) }
 {
     match goal {
         Goal::Write { value, .. } => write_next(output, process, value),
         Goal::Ask { round } => write_unresolved(output, process, round),
+        Goal::Propose { value } => write_proposal(output, process, value),
+        Goal::AskInput => write_between(
+            output,
+            b"quiet: the input of process",
+            process,
+            b" is not agreed on",
+        ),
         Goal::Done => write_between(output, b"useful: process", process, b" has decided"),
         Goal::Spent => write_between(output, b"useful: process", process, b" is spent"),
     }
@@ -218,6 +257,14 @@ fn write_next(output: &mut Text, process: u64, value: u32) -> Result<(), AllocEr
 {
     write_number(output, b"useful: process", process)?;
     write_between(output, b" writes", u64::from(value), b" next")
+}
+
+fn write_proposal(output: &mut Text, process: u64, value: u32) -> Result<(), AllocError>
+    ensures { OnOk result (output.new ≡ output.old ++
+        (behind (codes "useful: process") process ++ between (codes " proposes the input") value (codes " next"))) }
+{
+    write_number(output, b"useful: process", process)?;
+    write_between(output, b" proposes the input", u64::from(value), b" next")
 }
 
 fn write_unresolved(output: &mut Text, process: u64, round: u8) -> Result<(), AllocError>

@@ -136,7 +136,8 @@ fn asked_of(room: &RoomCore, step: &AtomicStep) -> Option<Unreadable>
 {
     match step.end {
         Some(Goal::Ask { round }) => unreadable_agreement(room, step.process, usize::from(round)),
-        Some(Goal::Write { .. } | Goal::Done | Goal::Spent) | None => None,
+        Some(Goal::AskInput) => unreadable_agreement(room, step.process, 0),
+        Some(Goal::Write { .. } | Goal::Propose { .. } | Goal::Done | Goal::Spent) | None => None,
     }
 }
 

@@ -6,3 +6,4 @@ pub use Rattle.transcript.proofs.Events.{row_spelled}
 pub use Rattle.transcript.proofs.Fields.{no_space_in}
 pub use Rattle.transcript.proofs.Histories.{count_more, count_same, due_other, if_same, latest-push, none_seen, quiet, same}
 pub use Rattle.transcript.proofs.Runs.{IsRun-nil, IsRun-push, slice_get-append, slice_get-push, slice_get-take, take-push}
+pub use Rattle.transcript.proofs.Singly.{due_by, enabled_by, may_have, process_below, run_singly, singly, together}

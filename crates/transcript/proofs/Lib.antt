@@ -6,8 +6,10 @@ mod Rows
 mod Histories
 mod Runs
 mod Agreeing
+mod Singly
 mod Worked
 mod WorkedRuns
+mod WorkedReductions
 mod WorkedTasks
 mod Writing
 mod FirstFault

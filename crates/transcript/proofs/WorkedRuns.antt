@@ -12,11 +12,12 @@ use Rattle.transcript.specs.Runs.{last_write, IsEnabled, IsRun, IsFirstBreak}
 use Rattle.transcript.proofs.Runs.{IsRun-nil, IsRun-push}
 
 -- two processes write their inputs, and decide them
-abbrev pair : RoomSpec
+abbrev pub pair : RoomSpec
 pair = record {
   version = One;
   name = codes "pair";
   inputs = 7 ∷ 3 ∷ [];
+  own = [];
   simulators = 2;
   rounds = 1;
   turns = 100;
@@ -31,7 +32,7 @@ snap_by p row = Snap p (record { items = row })
 abbrev both_written : List Event
 both_written = Write 0 7 ∷ Write 1 3 ∷ []
 
-abbrev whole_run : List Event
+abbrev pub whole_run : List Event
 whole_run = Write 0 7 ∷ Write 1 3 ∷ snap_by 0 (Some 7 ∷ Some 3 ∷ []) ∷ Decide 0 7 ∷ snap_by 1 (Some 7 ∷ Some 3 ∷ []) ∷ Decide 1 3 ∷ []
 
 first_write : IsEnabled pair [] (Write 0 7)
@@ -68,7 +69,7 @@ one_written_run = IsRun-push pair [] (Write 0 7) (IsRun-nil pair) first_write
 both_written_run : IsRun pair both_written
 both_written_run = IsRun-push pair (Write 0 7 ∷ []) (Write 1 3) one_written_run second_write
 
-is_run : IsRun pair whole_run
+pub is_run : IsRun pair whole_run
 is_run =
     let seen = IsRun-push pair both_written (snap_by 0 (Some 7 ∷ Some 3 ∷ [])) both_written_run first_snap in
     let decided = IsRun-push pair (both_written ++ snap_by 0 (Some 7 ∷ Some 3 ∷ []) ∷ []) (Decide 0 7) seen first_decision in

@@ -9,7 +9,7 @@ use Rattle.transcript.specs.declared.event.Event.TheVariants.{Write, Snap, Decid
 use Rattle.transcript.specs.Tasks.{decided_in, different, MayBeDecided, IsInTask, KeepsTask, IsFirstExcess}
 
 abbrev vote : RoomSpec
-vote = record { version = Two; name = codes "vote"; inputs = 5 ∷ 3 ∷ 9 ∷ []; simulators = 2; rounds = 3; turns = 100; task = Some 1; fuses = []; protocol = waits_for_all_but 1 }
+vote = record { version = Two; name = codes "vote"; inputs = 5 ∷ 3 ∷ 9 ∷ []; own = []; simulators = 2; rounds = 3; turns = 100; task = Some 1; fuses = []; protocol = waits_for_all_but 1 }
 
 abbrev snap_by : ℕ → List (Option ℕ) → Event
 snap_by p row = Snap p (record { items = row })

@@ -3,3 +3,4 @@ pub mod Grammar
 pub mod Lines
 pub mod Runs
 pub mod Tasks
+pub mod Reductions

@@ -1,6 +1,6 @@
 -- A simulator that is inside an agreement has entered it by a step that is drawn, and has left none since.
 use Rattle.std.proofs.Common.{◌≡◌, ◌≢◌, ◌∙◌, ◌⊎◌, inl, inr, ℕ, zero, suc, ◌+◌, ◌<◌, ◌==◌, ◌&&◌, ◌||◌, Bool, true, false, cond, Contains, List, [], ◌∷◌, ◌++◌, Option, Some, None, ap, ap₂, get_or, length, map, ne_eqb, refl, subst, sym, arith}
-use Rattle.std.specs.Prelude.{min, nat_lt, slice_index}
+use Rattle.std.specs.Prelude.{min, nat_lt}
 use Rattle.protocol_lang.specs.Numbers.{greatest}
 use Rattle.std.specs.List.{list_any}
 use Rattle.std.proofs.lemmas.List.{append_assoc, get_or-set_other, get_or-set_same}
@@ -17,12 +17,12 @@ use Rattle.room_spec.specs.Sizes.{memory_words, sizes_in}
 use Rattle.simulator.specs.declared.goal.Goal.{Goal}
 use Rattle.simulator.specs.declared.goal.Goal.TheVariants as goals
 use Rattle.simulator.specs.declared.line.Line.{Line}
-use Rattle.simulator.specs.declared.line.Line.TheVariants.{Rest, Raise, Snap, Show, Enter, Look, Leave, Ask, GetView, Values, Out}
+use Rattle.simulator.specs.declared.line.Line.TheVariants.{Rest, Raise, Snap, Show, Enter, Look, Leave, Ask, GetInput, GetView, Values, Out}
 use Rattle.simulator.specs.declared.operation.Move.{Move}
-use Rattle.simulator.specs.Minds.{MindState, current_round, goal_at, next_process, opening_mind}
+use Rattle.simulator.specs.Minds.{MindState, current_input, current_round, goal_at, next_process, opening_mind}
 use Rattle.simulator.specs.Moves.{answer_of, chosen_in, entry_in, is_again, loaded, move_of, taken, taken_at}
 use Rattle.simulator.specs.Sweeps.{SweepState, is_resting, opening_sweep, works_on}
-use Rattle.simulator.specs.Turns.{TakenOf, acted, asked, begun, collected, counted, gathered, gathered_all, goes_on, got_view, on_word, opened, opened_at, padded, scanned, showed, snapped, words_in, most_collects}
+use Rattle.simulator.specs.Turns.{TakenOf, acted, asked, begun, collected, counted, gathered, gathered_all, gets_in, goes_on, got_view, on_word, opened, opened_at, padded, scanned, showed, snapped, words_in, most_collects}
 use Rattle.room_core.specs.Agreements.{IsInside}
 use Rattle.room_core.specs.Calls.{RoomState, configuration_of}
 use Rattle.room_core.specs.Rooms.{Configuration, HasLine, IsShaped, crashed_at, crashed_by, mind_at, opening, stepped}
@@ -59,9 +59,13 @@ snapped_outside spec same mind = next_word spec Snap mind (scanned spec same (re
 showed_outside : (spec : RoomSpec) (mind : MindState) → IsOutside (showed spec mind)
 showed_outside spec mind = next_word spec Show mind (goes_on Enter (record mind { word = 0 })) (λ inside. inside) (record { line = λ inside. inside })
 
+gets_outside : (round chosen : ℕ) (mind : MindState) → IsOutside (goes_on (gets_in round chosen) mind)
+gets_outside zero chosen mind = record { line = λ inside. inside }
+gets_outside (suc round) chosen mind = record { line = λ inside. inside }
+
 asked_outside : (chosen : Option ℕ) (mind : MindState) → IsOutside (asked chosen mind)
 asked_outside None mind = record { line = λ inside. inside }
-asked_outside (Some i) mind = record { line = λ inside. inside }
+asked_outside (Some i) mind = gets_outside (current_round mind) i mind
 
 acted_outside : (spec : RoomSpec) (action : Action) (mind : MindState) → IsOutside (acted spec action mind)
 acted_outside spec (actions.Write value) mind = record { line = λ inside. inside }
@@ -69,7 +73,7 @@ acted_outside spec (actions.Decide decision) mind = record { line = λ inside. i
 
 gathered_outside : (spec : RoomSpec) (mind : MindState) → IsOutside (gathered_all spec mind)
 gathered_outside spec mind =
-    let action = next_action spec.protocol (slice_index spec.inputs mind.process) mind.process (current_round mind) mind.entries in
+    let action = next_action spec.protocol (current_input spec mind) mind.process (current_round mind) mind.entries in
     either (nat_lt (length mind.entries) (processes spec)) (goes_on Values mind) (acted spec action mind) (record { line = λ inside. inside }) (acted_outside spec action mind)
 
 gathered_by : (row : ℕ → ℕ) (spec : RoomSpec) (entries : List (Option ℕ)) (mind : MindState) → IsOutside (gathered row spec entries mind)
@@ -81,6 +85,8 @@ viewed_outside row spec chosen mind = next_word spec (GetView chosen) mind (gath
 opened_goal : (goal : Goal) (chosen : Option ℕ) (mind : MindState) → IsOutside (opened_at goal chosen mind)
 opened_goal (goals.Write round value) chosen mind = record { line = λ inside. inside }
 opened_goal (goals.Ask round) chosen mind = asked_outside chosen mind
+opened_goal (goals.Propose value) chosen mind = record { line = λ inside. inside }
+opened_goal goals.AskInput chosen mind = asked_outside chosen mind
 opened_goal goals.Done chosen mind = record { line = λ inside. inside }
 opened_goal goals.Spent chosen mind = record { line = λ inside. inside }
 
@@ -98,6 +104,7 @@ leads_inside Enter spec mind answer inside = inl refl
 leads_inside Look spec mind answer inside = inr refl
 leads_inside (Leave saw_two) spec mind answer inside = absurd inside
 leads_inside Ask spec mind answer inside = absurd ((asked_outside (chosen_in spec answer) mind).line inside)
+leads_inside (GetInput chosen) spec mind answer inside = absurd inside
 leads_inside (GetView chosen) spec mind answer inside = absurd ((viewed_outside (entry_in spec (loaded answer mind).snapshot) spec chosen (loaded answer mind)).line inside)
 leads_inside Values spec mind answer inside = absurd ((gathered_by (entry_in spec mind.snapshot) spec (mind.entries ++ Some (min answer greatest) ∷ []) mind).line inside)
 leads_inside (Out decision) spec mind answer inside = absurd inside

@@ -1,9 +1,8 @@
 -- What happened in a room, as it is drawn, from its opening on.
-use Rattle.std.proofs.Common.{◌≡◌, ◌∙◌, ℕ, zero, suc, ◌+◌, ◌<◌, ◌&&◌, Bool, true, false, List, [], ◌∷◌, ◌++◌, Option, Some, None, ap, eqb, eqb-true, refl, subst, sym, arith, inl, inr}
+use Rattle.std.proofs.Common.{◌≡◌, ◌∙◌, ℕ, zero, suc, ◌+◌, ◌<◌, ◌&&◌, Bool, true, false, List, [], ◌∷◌, ◌++◌, Option, Some, None, ap, refl, subst, sym, arith, inl, inr}
 use Rattle.std.specs.List.{find, range_with_len}
 use Rattle.std.proofs.lemmas.Bool.{and_parts, cases_Bool}
 use Rattle.std.proofs.lemmas.List.{append-nil, append_assoc}
-use Rattle.std.proofs.lemmas.List.Folds.{Any-from_list_any}
 use Rattle.room_spec.specs.Rooms.{RoomSpec, IsWithinLimits}
 use Rattle.room_spec.specs.Sizes.{sizes_in}
 use Rattle.simulator.specs.Minds.{MindState}
@@ -18,6 +17,7 @@ use Rattle.room_core.proofs.CallerLemmas.{fields_stand, moved_data, one_inside, 
 use Rattle.ws_history.specs.Reports.{held_by, is_inside, is_spent, state_by, state_of}
 use Rattle.room_core.specs.Agreements.{decided_in}
 use Rattle.ws_history.specs.declared.states.ProcessState.TheVariants.{Held}
+use Rattle.ws_history.proofs.CallerLemmas.{level_one}
 use Rattle.run_columns.specs.declared.mark.Mark.{Mark}
 use Rattle.run_columns.specs.declared.mark.Mark.TheVariants.{Crash}
 use Rattle.view_draw.specs.Seen.{AreMarks, IsMarkOf}
@@ -94,10 +94,9 @@ pub held_entered : (room : RoomState) (fields : Fields) (marks : List Mark) → 
 held_entered room fields marks limits are life j i held =
     let found = found_in_range (λ a. fields.crashed a && is_inside room.spec fields a j) 0 room.spec.simulators i (held_by_one (decided_in room.spec fields j) (is_spent room.spec fields j) (held_by room.spec fields j) i held) in
     let parts = and_parts (fields.crashed i) (is_inside room.spec fields i j) found.1 in
-    let some = Any-from_list_any (λ k. eqb (fields.level i j k) 1) (range_with_len 1 room.spec.rounds) parts.1 in
-    let one : fields.level i j some.1 ≡ 1 = eqb-true _ _ some.4 in
+    let one = level_one room.spec fields i j parts.1 in
     let stands = fields_stand room fields limits are in
-    let turn = one_inside room.spec fields stands.tracks i j some.1 one in
+    let turn = one_inside room.spec fields stands.tracks i j one.0 one.1 in
     let below : i < room.spec.simulators = let less = found.0 in omega arith in
     let mind : mind_at (configuration_of room) i ≡ worded (sizes_in room.spec) (fields.mind i) = (stands.reads.minds i below).same in
     let crashed : crashed_at (configuration_of room) i ≡ true = stands.reads.crashed i below ∙ parts.0 in

@@ -18,6 +18,7 @@ use Rattle.script_play.specs.Following.{AreFollowed}
 use Rattle.script_play.specs.Script.{script_says}
 use Rattle.script_play.specs.Script.{Entry as Asked}
 use Rattle.room_files.specs.declared.outcome.Outcome.{Outcome}
+use Rattle.room_files.specs.declared.kinds.Kinds.TheVariants.{All}
 use Rattle.script_play.specs.Play.{AreDone, Done, IsBlockOf, Replied, Faulty, Unread, ending_of, refusal_in}
 use Rattle.simulator_lanes.specs.Panels.{IsHeadOf, Panel}
 use Rattle.picture_shapes.specs.Svg.{svg_of}
@@ -141,7 +142,7 @@ pub record IsDrawn (style : Style) (input : List ℕ) (ending : Result Outcome A
   pub entries : List Asked
   pub asked : script_says input ≡ Ok entries
   pub all : List Done
-  pub each_entry : AreDone entries all
+  pub each_entry : AreDone All entries all
   pub rooms : Entries
   pub panels : List Panel
   pub drawn : AreFollowed IsDrawnBy [] [] all rooms panels

@@ -10,7 +10,7 @@ use crate::panels::Panels;
 use indexmap::IndexMap;
 use io_text::Text;
 use room_core::RoomCore;
-use room_files::InputFault;
+use room_files::{InputFault, Kinds};
 use room_spec::Name;
 use run_picture::{Style, write_picture};
 use script_play::{PlayText, Played, play_script};
@@ -35,7 +35,7 @@ pub fn draw(alloc: Global, style: Style, script: &[u8]) -> Result<PlayText, Inpu
         service,
         follower,
         ending,
-    } = play_script(alloc, Drawing::new(alloc), script)?;
+    } = play_script(alloc, Kinds::All, Drawing::new(alloc), script)?;
     let output = picture_from(alloc, style, service, follower.panels)?;
     Ok(PlayText { output, ending })
 }

@@ -1,5 +1,5 @@
 -- Histories that are judged command by command.
-use Rattle.std.proofs.Common.{◌≡◌, ◌∙◌, ℕ, zero, suc, ◌+◌, ◌-◌, ◌<◌, ◌==◌, Bool, true, false, List, [], ◌∷◌, ◌++◌, length, map, Option, Some, None, Result, Ok, Err, refl, sym, ap, ap₂, subst, arith}
+use Rattle.std.proofs.Common.{◌≡◌, ◌∙◌, ℕ, zero, suc, ◌+◌, ◌<◌, ◌==◌, Bool, true, false, List, [], ◌∷◌, ◌++◌, length, map, Option, Some, None, Result, Ok, Err, refl, sym, ap, ap₂, subst, arith}
 use Rattle.std.specs.Prelude.{IfNone, IfOk, IfSome, if◌then◌else◌}
 use Rattle.std.specs.Result.{OnOk}
 use Rattle.std.specs.List.{concat, range_with_len}
@@ -20,7 +20,8 @@ use Rattle.service_core.specs.Rooms.{Entries, room_at}
 use Rattle.service_core.specs.declared.command.Command.{Command}
 use Rattle.service_core.specs.declared.reply.Reply.{Reply}
 use Rattle.room_files.specs.declared.outcome.Outcome.{Outcome}
-use Rattle.script_play.specs.Following.{AreFollowed, IsAsked, IsPlay, decisions_at}
+use Rattle.room_files.specs.declared.kinds.Kinds.TheVariants.{All}
+use Rattle.script_play.specs.Following.{AreFollowed, IsAsked, IsPlay}
 use Rattle.script_play.specs.Play.{Done, Replied}
 use Rattle.script_play.specs.Script.{text_after}
 use Rattle.script_play.specs.declared.following.Asked.{Asked}
@@ -52,7 +53,7 @@ found_is line at name of moment same_line same_name = ap₂ (λ (l : ℕ) (n : L
 -- the one that follows, which was ready as it was first, has noted the command, and judged the room
 pub command_kept : (lines ready_lines : List Tree) (script ready_script : List ℕ) (asked : Asked) (first ready now : Kept) (rooms left : Entries) (command : Command) (reply : Reply) → IsAsked asked command
     → ready_lines ≡ lines → ready_script ≡ script → ready.graded.last ≡ first.graded.last → ready.graded.moves ≡ first.graded.moves → ready.watched.entries ≡ first.watched.entries → ready.watched.found ≡ first.watched.found
-    → now.graded.last ≡ reported_in (decisions_at (room_at left asked.name.now)) ready.graded.last reply → now.graded.moves ≡ (if is_move_for asked.order then one_more ready.graded.moves else ready.graded.moves)
+    → now.graded.last ≡ reported_in (room_at left asked.name.now) ready.graded.last reply → now.graded.moves ≡ (if is_move_for asked.order then one_more ready.graded.moves else ready.graded.moves)
     → now.watched.entries ≡ one_more ready.watched.entries → IsFoundUnless ready.watched.found ready_lines (line_at ready_script ready.watched.entries) asked.name.now (room_at left asked.name.now) now.watched.found
     → IsKeptBy lines script first rooms (Replied command reply) left now
 command_kept lines ready_lines script ready_script asked first ready now rooms left command reply is same_lines same_script last moves entries broken last_is moves_are entries_are found = (
@@ -88,7 +89,7 @@ kept_along lines_of script_of view lines script rooms first (done ∷ all) after
 
 pub script_kept : {F : Type 0} (lines_of : F → List Tree) (script_of : F → List ℕ) (view : F → Kept) (claims : List Claim) (most : Option ℕ) (lines : List Tree) (script : List ℕ) (first : F) (rooms : Entries) (last : F) (ending now : Result Outcome AllocError) (output : List ℕ)
     → lines_of first ≡ lines → script_of first ≡ script → view first ≡ nothing_kept
-    → IsPlay (λ old before done left new. (lines_of new ≡ lines_of old) × (script_of new ≡ script_of old) × IsKeptBy (lines_of old) (script_of old) (view old) before done left (view new)) script first rooms last ending
+    → IsPlay (λ old before done left new. (lines_of new ≡ lines_of old) × (script_of new ≡ script_of old) × IsKeptBy (lines_of old) (script_of old) (view old) before done left (view new)) All script first rooms last ending
     → output ≡ kept_text claims most (view last).graded (view last).watched.found → now ≡ graded_ending ending (is_kept_reached claims most (view last).graded (view last).watched.found) → IsKeptGrade claims most lines script now output
 script_kept lines_of script_of view claims most lines script first rooms last ending now output same_lines same_script none is output_is ending_is = record {
   entries = is.entries;

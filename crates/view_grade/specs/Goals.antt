@@ -1,10 +1,11 @@
 -- Goals, and how they are read from their words.
 use Rattle.std.specs.Prelude.{ℕ, zero, suc, ◌+◌, Bool, true, false, List, [], ◌∷◌, ◌++◌, length, Option, Some, None, Result, Ok, Err, if◌then◌else◌, codes, decimal}
 use Rattle.std.specs.Str.{bytes_eq}
+use Rattle.std.specs.Option.{option_map}
 use Rattle.room_spec.specs.Texts.{fields_of}
 use Rattle.script_play.specs.Script.{number_within}
 use Rattle.view_grade.specs.declared.goal.Fact.{Fact}
-use Rattle.view_grade.specs.declared.goal.Fact.TheVariants.{Decided, Spent, Held, Going, Crashed, SimulatorDecided, History}
+use Rattle.view_grade.specs.declared.goal.Fact.TheVariants.{Decided, Spent, Held, Going, Input, Crashed, SimulatorDecided, History}
 use Rattle.view_grade.specs.declared.goal.Joint.{Joint}
 use Rattle.view_grade.specs.declared.goal.Joint.TheVariants.{And, Or}
 use Rattle.view_grade.specs.declared.goal.Claim.{Claim}
@@ -17,11 +18,17 @@ abbrev pub joint_word : Joint → List ℕ
 joint_word And = codes "and"
 joint_word Or = codes "or"
 
+-- an input: a value, or none yet
+abbrev pub input_word : Option ℕ → List ℕ
+input_word None = codes "none"
+input_word (Some value) = decimal value
+
 abbrev pub fact_words : Fact → List (List ℕ)
 fact_words (Decided process value) = codes "decided" ∷ decimal process ∷ decimal value ∷ []
 fact_words (Spent process) = codes "spent" ∷ decimal process ∷ []
 fact_words (Held process) = codes "held" ∷ decimal process ∷ []
 fact_words (Going process) = codes "going" ∷ decimal process ∷ []
+fact_words (Input process input) = codes "input" ∷ decimal process ∷ input_word input ∷ []
 fact_words (Crashed simulator) = codes "crashed" ∷ decimal simulator ∷ []
 fact_words (SimulatorDecided simulator value) = codes "simulator" ∷ decimal simulator ∷ codes "decided" ∷ decimal value ∷ []
 fact_words (History events) = codes "history" ∷ decimal events ∷ []
@@ -45,6 +52,19 @@ abbrev pub decided_fact : Option ℕ → List (List ℕ) → Option (Fact × Lis
 decided_fact process [] = None
 decided_fact process (value ∷ rest) = decided_value process (number_within 0 4294967295 value) rest
 
+-- the input that a word says: a value, or `none`
+abbrev pub input_in : List ℕ → Option (Option ℕ)
+input_in word = if bytes_eq word (codes "none") then Some None else option_map (λ value. Some value) (number_within 0 4294967295 word)
+
+abbrev pub input_value : Option ℕ → Option (Option ℕ) → List (List ℕ) → Option (Fact × List (List ℕ))
+input_value None input rest = None
+input_value (Some process) None rest = None
+input_value (Some process) (Some input) rest = Some (Input process input, rest)
+
+abbrev pub input_fact : Option ℕ → List (List ℕ) → Option (Fact × List (List ℕ))
+input_fact process [] = None
+input_fact process (word ∷ rest) = input_value process (input_in word) rest
+
 abbrev pub simulator_value : Option ℕ → Option ℕ → List (List ℕ) → Option (Fact × List (List ℕ))
 simulator_value None value rest = None
 simulator_value (Some simulator) None rest = None
@@ -61,6 +81,7 @@ abbrev pub fact_of : List ℕ → List ℕ → List (List ℕ) → Option (Fact 
 fact_of word number rest =
     if bytes_eq word (codes "decided") then decided_fact (number_within 0 255 number) rest
     else if bytes_eq word (codes "simulator") then simulator_fact (number_within 0 255 number) rest
+    else if bytes_eq word (codes "input") then input_fact (number_within 0 255 number) rest
     else if bytes_eq word (codes "spent") then about Spent (number_within 0 255 number) rest
     else if bytes_eq word (codes "held") then about Held (number_within 0 255 number) rest
     else if bytes_eq word (codes "going") then about Going (number_within 0 255 number) rest
@@ -113,5 +134,5 @@ goal_in text = goal_from (suc (length text)) 1 Or (fields_of text)
 abbrev pub goal_forms : List ℕ
 goal_forms =
     codes "    a goal is, for example, `held 0 and not decided 1 3 or crashed 0`\n"
-    ++ (codes "    expected in a claim: `decided J V`, `spent J`, `held J`, `going J`, `crashed I`, `simulator I decided V` or `history E`, or one of these after `not`\n"
+    ++ (codes "    expected in a claim: `decided J V`, `spent J`, `held J`, `going J`, `input J V`, `input J none`, `crashed I`, `simulator I decided V` or `history E`, or one of these after `not`\n"
     ++ codes "    between two words is one space\n")

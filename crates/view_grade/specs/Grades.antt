@@ -12,28 +12,31 @@ use Rattle.service_core.specs.declared.reply.Reply.{Reply}
 use Rattle.service_core.specs.declared.reply.Reply.TheVariants.{Report}
 use Rattle.room_files.specs.Verdicts.{outcome_if}
 use Rattle.room_files.specs.declared.outcome.Outcome.{Outcome}
+use Rattle.room_files.specs.declared.kinds.Kinds.TheVariants.{All}
 use Rattle.script_play.specs.Play.{AreDone, AreReplies, Done, Faulty, Replied, Unread, commands_of, ending_of, replies_in}
 use Rattle.script_play.specs.Following.{AreFollowed, decisions_at}
 use Rattle.script_play.specs.Script.{Entry as Asked, script_says}
 use Rattle.script_play.specs.declared.following.Order.{Order}
 use Rattle.script_play.specs.declared.following.Order.TheVariants as orders
-use Rattle.view_grade.specs.Judging.{ReportedParts, decision_of, holds, satisfies, state_of}
+use Rattle.room_core.specs.Calls.{RoomState}
+use Rattle.view_grade.specs.Inputs.{inputs_at}
+use Rattle.view_grade.specs.Judging.{ReportedParts, decision_of, holds, reported_input, satisfies, state_of}
 use Rattle.view_grade.specs.declared.goal.Fact.{Fact}
-use Rattle.view_grade.specs.declared.goal.Fact.TheVariants.{Decided, Spent, Held, Going, Crashed, SimulatorDecided, History}
+use Rattle.view_grade.specs.declared.goal.Fact.TheVariants.{Decided, Spent, Held, Going, Input, Crashed, SimulatorDecided, History}
 use Rattle.view_grade.specs.declared.goal.Claim.{Claim}
 use Rattle.view_grade.specs.declared.goal.GoalFault.{GoalFault}
 use Rattle.view_grade.specs.declared.goal.GoalFault.TheVariants.{NoClaim, NoJoint}
 
 -- ---- the last report, and the moves
 
--- a report takes the place of those before it
-abbrev pub reported_in : List (Option ℕ) → Option ReportedParts → Reply → Option ReportedParts
-reported_in decisions last (Report report) = Some (record { report = report; decisions = decisions })
-reported_in decisions last reply = last
+-- a report takes the place of those before it, with what the simulators of this room have decided and which inputs its processes have
+abbrev pub reported_in : Option RoomState → Option ReportedParts → Reply → Option ReportedParts
+reported_in room last (Report report) = Some (record { report = report; decisions = decisions_at room; inputs = inputs_at room })
+reported_in room last reply = last
 
--- with what the simulators of its room, as it is left, have decided then
+-- a report is of its room as it is left
 abbrev pub reported_with : Option ReportedParts → Done → Entries → Option ReportedParts
-reported_with last (Replied command reply) left = reported_in (decisions_at (room_at left (name_in command))) last reply
+reported_with last (Replied command reply) left = reported_in (room_at left (name_in command)) last reply
 reported_with last (Faulty line fault) left = last
 reported_with last (Unread line) left = last
 
@@ -73,11 +76,17 @@ IsGradedBy before rooms done left now = (now.last ≡ reported_with before.last 
 abbrev pub and_number : List ℕ → ℕ → List ℕ
 and_number words number = words ++ (32 ∷ decimal number)
 
+-- an input after a process: a value, or none yet
+abbrev pub input_text : Option ℕ → List ℕ
+input_text None = codes " none"
+input_text (Some value) = 32 ∷ decimal value
+
 abbrev pub fact_text : Fact → List ℕ
 fact_text (Decided process value) = and_number (and_number (codes "decided") process) value
 fact_text (Spent process) = and_number (codes "spent") process
 fact_text (Held process) = and_number (codes "held") process
 fact_text (Going process) = and_number (codes "going") process
+fact_text (Input process input) = and_number (codes "input") process ++ input_text input
 fact_text (Crashed simulator) = and_number (codes "crashed") simulator
 fact_text (SimulatorDecided simulator value) = and_number (codes "simulator") simulator ++ and_number (codes " decided") value
 fact_text (History events) = and_number (codes "history") events
@@ -107,12 +116,19 @@ decision_shown simulator None = and_number (codes "the room has no simulator") s
 decision_shown simulator (Some None) = and_number (codes "simulator") simulator ++ codes " has not decided"
 decision_shown simulator (Some (Some decision)) = and_number (codes "simulator") simulator ++ and_number (codes " has decided") decision
 
+-- the input that a process had, if it had one
+abbrev pub input_shown : ℕ → Option (Option ℕ) → List ℕ
+input_shown process None = and_number (codes "the room has no process") process
+input_shown process (Some None) = and_number (codes "process") process ++ codes " has no input yet"
+input_shown process (Some (Some input)) = and_number (codes "process") process ++ and_number (codes " has the input") input
+
 -- what a report shows that decides a fact
 abbrev pub shown_text : ReportedParts → Fact → List ℕ
 shown_text reported (Decided process value) = process_text process (state_of reported.report process)
 shown_text reported (Spent process) = process_text process (state_of reported.report process)
 shown_text reported (Held process) = process_text process (state_of reported.report process)
 shown_text reported (Going process) = process_text process (state_of reported.report process)
+shown_text reported (Input process input) = input_shown process (reported_input reported process)
 shown_text reported (Crashed simulator) = crash_text simulator (list_any (λ crashed. crashed == simulator) reported.report.crashed.items)
 shown_text reported (SimulatorDecided simulator value) = decision_shown simulator (decision_of reported simulator)
 shown_text reported (History events) = and_number (codes "the number of events is") (length reported.report.history)
@@ -162,12 +178,12 @@ graded_ending (Ok outcome) reached = Ok (outcome_if reached)
 graded_ending (Err failed) reached = Err failed
 
 -- What is said of a script: the replies to its commands are those of `bgsim play`, and the last report among them is judged, with what the simulators
--- of its room had decided then.
+-- of its room had decided and which inputs its processes had then.
 pub record IsGraded (claims : List Claim) (most : Option ℕ) (input : List ℕ) (ending : Result Outcome AllocError) (output : List ℕ) : Type 0 where
   pub entries : List Asked
   pub asked : script_says input ≡ Ok entries
   pub all : List Done
-  pub each_entry : AreDone entries all
+  pub each_entry : AreDone All entries all
   pub replies : AreReplies (commands_of all) (replies_in all)
   pub rooms : Entries
   pub graded : Graded

@@ -5,15 +5,16 @@ use Rattle.ws_history.specs.declared.states.Report.{Report}
 use Rattle.ws_history.specs.declared.states.ProcessState.{ProcessState}
 use Rattle.ws_history.specs.declared.states.ProcessState.TheVariants as states
 use Rattle.view_grade.specs.declared.goal.Fact.{Fact}
-use Rattle.view_grade.specs.declared.goal.Fact.TheVariants.{Decided, Spent, Held, Going, Crashed, SimulatorDecided, History}
+use Rattle.view_grade.specs.declared.goal.Fact.TheVariants.{Decided, Spent, Held, Going, Input, Crashed, SimulatorDecided, History}
 use Rattle.view_grade.specs.declared.goal.Joint.{Joint}
 use Rattle.view_grade.specs.declared.goal.Joint.TheVariants.{And, Or}
 use Rattle.view_grade.specs.declared.goal.Claim.{Claim}
 
--- a report, and what each simulator of its room had decided when it was made, by their numbers
+-- a report, and what each simulator of its room had decided and which input each process had when it was made, by their numbers
 pub record ReportedParts : Type 0 where
   pub report : Report
   pub decisions : List (Option ℕ)
+  pub inputs : List (Option ℕ)
 
 abbrev pub state_of : Report → ℕ → Option ProcessState
 state_of report process = slice_get report.states.items process
@@ -43,11 +44,24 @@ is_decision value (Some (Some decision)) = decision == value
 is_decision value (Some None) = false
 is_decision value None = false
 
+-- the input that a process had, if there is such a process
+abbrev pub reported_input : ReportedParts → ℕ → Option (Option ℕ)
+reported_input reported process = slice_get reported.inputs process
+
+-- whether this is the input, or there was none yet
+abbrev pub is_input : Option ℕ → Option (Option ℕ) → Bool
+is_input input None = false
+is_input None (Some None) = true
+is_input None (Some (Some value)) = false
+is_input (Some value) (Some None) = false
+is_input (Some value) (Some (Some input)) = input == value
+
 abbrev pub is_fact : ReportedParts → Fact → Bool
 is_fact reported (Decided process value) = has_decided value (state_of reported.report process)
 is_fact reported (Spent process) = is_spent (state_of reported.report process)
 is_fact reported (Held process) = is_held (state_of reported.report process)
 is_fact reported (Going process) = is_going (state_of reported.report process)
+is_fact reported (Input process input) = is_input input (reported_input reported process)
 is_fact reported (Crashed simulator) = list_any (λ crashed. crashed == simulator) reported.report.crashed.items
 is_fact reported (SimulatorDecided simulator value) = is_decision value (decision_of reported simulator)
 is_fact reported (History events) = length reported.report.history == events

@@ -5,7 +5,7 @@ use Rattle.std.specs.List.{concat, range_with_len}
 use Rattle.protocol_lang.specs.Trees.{Tree}
 use Rattle.room_spec.specs.Rooms.{RoomSpec}
 use Rattle.room_spec.specs.Texts.{first_line, later_lines}
-use Rattle.transcript.specs.Runs.{IsRun}
+use Rattle.ws_history.specs.Inputs.{IsRoomRun}
 use Rattle.transcript.specs.declared.event.Event.{Event}
 use Rattle.decision_tasks.specs.Tasks.{IsFirstBroken, KeepsDecisions}
 use Rattle.decision_tasks.specs.declared.history.Moment.{Moment}
@@ -17,10 +17,10 @@ use Rattle.service_core.specs.Replies.{name_in}
 use Rattle.service_core.specs.Rooms.{Entries, room_at}
 use Rattle.room_files.specs.Lines.{text_lines}
 use Rattle.room_files.specs.declared.outcome.Outcome.{Outcome}
+use Rattle.room_files.specs.declared.kinds.Kinds.TheVariants.{All}
 use Rattle.script_play.specs.Play.{AreDone, AreReplies, Done, Faulty, Replied, Unread, commands_of, ending_of, replies_in}
 use Rattle.script_play.specs.Following.{AreFollowed}
 use Rattle.script_play.specs.Script.{Entry as Asked, block_after, script_says, text_after}
-use Rattle.view_grade.specs.Judging.{ReportedParts}
 use Rattle.view_grade.specs.Grades.{Graded, IsGradedBy, and_number, claim_lines, end_line, few_line, graded_ending, is_reached, nothing_graded, one_more}
 use Rattle.view_grade.specs.declared.goal.Claim.{Claim}
 
@@ -35,7 +35,7 @@ IsKeptTo lines spec events (Some moment) = IsFirstBroken lines spec events momen
 pub record IsJudged (lines : List Tree) (room : RoomState) (found : Option Moment) : Type 0 where
   pub events : List Event
   pub history : (fields : Fields) → AreFieldsOf room fields → events ≡ history_of room.spec fields
-  pub run : IsRun room.spec events
+  pub run : IsRoomRun room.spec events
   pub kept : IsKeptTo lines room.spec events found
 
 -- there is nothing to judge without a room
@@ -155,7 +155,7 @@ pub record IsKeptGrade (claims : List Claim) (most : Option ℕ) (lines : List T
   pub entries : List Asked
   pub asked : script_says input ≡ Ok entries
   pub all : List Done
-  pub each_entry : AreDone entries all
+  pub each_entry : AreDone All entries all
   pub replies : AreReplies (commands_of all) (replies_in all)
   pub rooms : Entries
   pub kept : Kept

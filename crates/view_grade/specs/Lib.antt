@@ -1,4 +1,5 @@
 pub mod Goals
 pub mod Grades
+pub mod Inputs
 pub mod Judging
 pub mod Keeping

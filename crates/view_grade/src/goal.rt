@@ -17,6 +17,8 @@ pub enum Fact {
     Held(u8),
     /// `going J`: process J is none of these.
     Going(u8),
+    /// `input J V`: process J has the input V; `input J none`: it has none yet.
+    Input { process: u8, input: Option<u32> },
     /// `crashed I`: simulator I has crashed.
     Crashed(u8),
     /// `simulator I decided V`: simulator I has decided V.

@@ -1,9 +1,9 @@
-//! Keeps the last report of a script, with what simulators had decided.
+//! Keeps the last report of a script, with what simulators had decided and which inputs processes had.
 ghost use Rattle.std.specs.Prelude.{◌≡◌, None, if◌then◌else◌};
 ghost use Rattle.service_core.specs.Rooms.{room_at};
-ghost use Rattle.script_play.specs.Following.{decisions_at};
 ghost use Rattle.view_grade.specs.Grades.{is_move_for, one_more, reported_in};
 
+use crate::inputs::inputs_at;
 use crate::reported::Reported;
 use room_core::Unobserved;
 use room_spec::{Spec, SpecFault};
@@ -29,18 +29,18 @@ impl Grader {
         }
     }
 
-    /// Counts a command, and keeps the reply to it if it is a report, with what the simulators of its room have decided.
+    /// Counts a command, and keeps the reply to it if it is a report, with what the simulators of its room have decided and which inputs its processes have.
     pub(crate) fn note(&mut self, asked: &Asked<'_>, reply: Reply, rooms: &Service)
-        ensures last { self.new.last ≡ reported_in (decisions_at (room_at rooms.now asked.now.name.now)) self.old.last reply }
+        ensures last { self.new.last ≡ reported_in (room_at rooms.now asked.now.name.now) self.old.last reply }
         ensures moves { self.new.moves ≡ if is_move_for asked.now.order then one_more self.old.moves else self.old.moves }
     {
         self.moves = moves_by(self.moves, asked.order);
         self.keep(reply, rooms, asked.name);
     }
 
-    /// Keeps a reply to the room of this name if it is a report, with what the room's simulators have decided.
+    /// Keeps a reply to the room of this name if it is a report, with what the room's simulators have decided and which inputs its processes have.
     fn keep(&mut self, reply: Reply, rooms: &Service, name: &[u8])
-        ensures last { self.new.last ≡ reported_in (decisions_at (room_at rooms.now name.now)) self.old.last reply }
+        ensures last { self.new.last ≡ reported_in (room_at rooms.now name.now) self.old.last reply }
         ensures moves { self.new.moves ≡ self.old.moves }
     {
         match reply {
@@ -48,6 +48,7 @@ impl Grader {
                 self.last = Some(Reported {
                     report,
                     decisions: decisions_at(rooms, name),
+                    inputs: inputs_at(rooms, name),
                 });
             }
             Reply::Begun

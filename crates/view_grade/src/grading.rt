@@ -15,7 +15,7 @@ use crate::reported::Reported;
 use crate::text::{write_claims, write_end, write_few};
 use decision_tasks::DecisionTask;
 use io_text::Text;
-use room_files::{InputFault, Outcome, outcome_if};
+use room_files::{InputFault, Kinds, Outcome, outcome_if};
 use script_play::{PlayText, Played, play_script};
 use std::alloc::{AllocError, Global};
 
@@ -40,7 +40,7 @@ pub fn grade(
         follower,
         ending,
         ..
-    } = play_script(alloc, Grader::new(), script)?;
+    } = play_script(alloc, Kinds::All, Grader::new(), script)?;
     let Grader { last, moves } = follower;
     let output = text_of(alloc, goal, most, &last, moves)?;
     let ending = graded_ending(ending, is_reached(goal, most, &last, moves));
@@ -69,7 +69,7 @@ pub fn grade_kept(
         follower,
         ending,
         ..
-    } = play_script(alloc, Keeper::new(alloc, task, script), script)?;
+    } = play_script(alloc, Kinds::All, Keeper::new(alloc, task, script), script)?;
     let Keeper { grader, broken, .. } = follower;
     let output = kept_text(alloc, goal, most, &grader, &broken)?;
     let ending = graded_ending(ending, is_kept_reached(goal, most, &grader, &broken));

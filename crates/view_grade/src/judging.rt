@@ -1,7 +1,7 @@
 //! Whether a report satisfies a goal.
 ghost use Rattle.std.specs.Prelude.{◌≡◌, ◌==◌, slice_get};
 ghost use Rattle.std.specs.List.{list_any};
-ghost use Rattle.view_grade.specs.Judging.{decision_of, holds, is_fact, satisfies};
+ghost use Rattle.view_grade.specs.Judging.{decision_of, holds, is_fact, reported_input, satisfies};
 
 use crate::goal::{Claim, Fact, Joint};
 use crate::reported::Reported;
@@ -43,6 +43,7 @@ fn is_fact(reported: &Reported, fact: Fact) -> bool
         Fact::Spent(process) => state_of(report, process) == Some(ProcessState::Spent),
         Fact::Held(process) => matches!(state_of(report, process), Some(ProcessState::Held(_))),
         Fact::Going(process) => state_of(report, process) == Some(ProcessState::Going),
+        Fact::Input { process, input } => reported_input(reported, process) == Some(input),
         Fact::Crashed(simulator) => has_crashed(report, simulator),
         Fact::SimulatorDecided { simulator, value } => {
             decision_of(reported, simulator) == Some(Some(value))
@@ -74,4 +75,11 @@ pub(crate) fn decision_of(reported: &Reported, simulator: u8) -> Option<Option<u
         .as_slice()
         .get(simulator as usize)
         .copied()
+}
+
+/// The input that a process had, if there is such a process.
+pub(crate) fn reported_input(reported: &Reported, process: u8) -> Option<Option<u32>>
+    ensures { result ≡ reported_input reported.now process }
+{
+    reported.inputs.as_slice().get(process as usize).copied()
 }

@@ -5,6 +5,7 @@ mod forms;
 mod goal;
 mod grader;
 mod grading;
+mod inputs;
 mod judging;
 mod keeper;
 mod kept_text;

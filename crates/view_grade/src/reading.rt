@@ -4,7 +4,7 @@ ghost use Rattle.std.specs.Option.{option_copied};
 ghost use Rattle.std.specs.Str.{bytes_eq};
 ghost use Rattle.room_spec.specs.Texts.{fields_of, is_space, pieces_of};
 ghost use Rattle.script_play.specs.Script.{number_within};
-ghost use Rattle.view_grade.specs.Goals.{claim_in, claim_with, decided_fact, fact_in, fact_of, goal_in, joint_of, simulator_fact};
+ghost use Rattle.view_grade.specs.Goals.{claim_in, claim_with, decided_fact, fact_in, fact_of, goal_in, input_fact, input_in, joint_of, simulator_fact};
 
 use crate::goal::{Claim, Fact, Goal, GoalFault, Joint};
 use protocol_lang::read_number;
@@ -87,6 +87,9 @@ fn read_fact(text: &[u8]) -> Option<(Fact, Option<&[u8]>)>
     if word == b"simulator".as_slice() {
         return simulator_fact(number, later?);
     }
+    if word == b"input".as_slice() {
+        return input_fact(number, later?);
+    }
     let fact = fact_of(word, number)?;
     Some((fact, later))
 }
@@ -117,9 +120,31 @@ fn simulator_fact<'a>(simulator: &[u8], text: &'a [u8]) -> Option<(Fact, Option<
     Some((Fact::SimulatorDecided { simulator, value }, later))
 }
 
+/// The fact that the process of this number has the input with which a text begins, and the text after the next space.
+fn input_fact<'a>(process: &[u8], text: &'a [u8]) -> Option<(Fact, Option<&'a [u8]>)>
+    ensures fact { option_map (λ read. (read.0, pieces_of is_space (option_copied read.1))) result ≡ input_fact (number_within 0 255 process.now) (fields_of text.now) }
+    ensures shorter { IfSome result (λ read. IfSome read.1 (λ rest. length rest.now < length text.now)) }
+{
+    let (word, rest) = cut(text, b' ');
+    let process = read_within(255, process)? as u8;
+    let input = input_in(word)?;
+    Some((Fact::Input { process, input }, rest))
+}
+
+/// The input that a word says: a value, or `none`.
+fn input_in(word: &[u8]) -> Option<Option<u32>>
+    ensures { result ≡ input_in word.now }
+{
+    if word == b"none".as_slice() {
+        return Some(None);
+    }
+    let value = read_within(u32::MAX, word)?;
+    Some(Some(value))
+}
+
 /// The fact of this word about one number.
 fn fact_of(word: &[u8], number: &[u8]) -> Option<Fact>
-    ensures { (rest : List (List ℕ)) → bytes_eq word.now (codes "decided") ≡ false → bytes_eq word.now (codes "simulator") ≡ false → option_map (λ fact. (fact, rest)) result ≡ fact_of word.now number.now rest }
+    ensures { (rest : List (List ℕ)) → bytes_eq word.now (codes "decided") ≡ false → bytes_eq word.now (codes "simulator") ≡ false → bytes_eq word.now (codes "input") ≡ false → option_map (λ fact. (fact, rest)) result ≡ fact_of word.now number.now rest }
 {
     if word == b"spent".as_slice() {
         Some(Fact::Spent(read_within(255, number)? as u8))

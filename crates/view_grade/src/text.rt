@@ -1,10 +1,10 @@
 //! What is said of a report and a goal, line by line.
 ghost use Rattle.std.specs.Prelude.{◌≡◌, ◌++◌, OnOk};
 ghost use Rattle.std.specs.List.{flat_map};
-ghost use Rattle.view_grade.specs.Grades.{and_number, claim_line, claim_lines, claim_text, crash_end, crash_text, decision_shown, end_line, fact_text, few_end, few_line, many_text, process_text, shown_text, state_text};
+ghost use Rattle.view_grade.specs.Grades.{and_number, claim_line, claim_lines, claim_text, crash_end, crash_text, decision_shown, end_line, fact_text, few_end, few_line, input_shown, input_text, many_text, process_text, shown_text, state_text};
 
 use crate::goal::{Claim, Fact};
-use crate::judging::{decision_of, has_crashed, holds, state_of};
+use crate::judging::{decision_of, has_crashed, holds, reported_input, state_of};
 use crate::reported::Reported;
 use io_text::Text;
 use std::alloc::AllocError;
@@ -68,12 +68,26 @@ fn write_fact(output: &mut Text, fact: Fact) -> Result<(), AllocError>
         Fact::Spent(process) => put_and(output, b"spent", u64::from(process)),
         Fact::Held(process) => put_and(output, b"held", u64::from(process)),
         Fact::Going(process) => put_and(output, b"going", u64::from(process)),
+        Fact::Input { process, input } => {
+            put_and(output, b"input", u64::from(process))?;
+            write_input(output, input)
+        }
         Fact::Crashed(simulator) => put_and(output, b"crashed", u64::from(simulator)),
         Fact::SimulatorDecided { simulator, value } => {
             put_and(output, b"simulator", u64::from(simulator))?;
             put_and(output, b" decided", u64::from(value))
         }
         Fact::History(events) => put_and(output, b"history", u64::from(events)),
+    }
+}
+
+/// Writes an input after a process: a value, or that there is none yet.
+fn write_input(output: &mut Text, input: Option<u32>) -> Result<(), AllocError>
+    ensures { OnOk result (output.new ≡ output.old ++ input_text input) }
+{
+    match input {
+        Some(value) => output.put_number(u64::from(value)),
+        None => output.put(b" none"),
     }
 }
 
@@ -88,6 +102,9 @@ fn write_shown(output: &mut Text, reported: &Reported, fact: Fact) -> Result<(),
         }
         Fact::Spent(process) | Fact::Held(process) | Fact::Going(process) => {
             write_process(output, process, state_of(report, process))
+        }
+        Fact::Input { process, .. } => {
+            write_shown_input(output, process, reported_input(reported, process))
         }
         Fact::Crashed(simulator) => {
             write_crash(output, simulator, has_crashed(report, simulator))
@@ -152,6 +169,24 @@ fn write_decision(
     match decision {
         Some(value) => put_and(output, b" has decided", u64::from(value)),
         None => output.put(b" has not decided"),
+    }
+}
+
+/// Writes which input a process had.
+fn write_shown_input(
+    output: &mut Text,
+    process: u8,
+    input: Option<Option<u32>>,
+) -> Result<(), AllocError>
+    ensures { OnOk result (output.new ≡ output.old ++ input_shown process input) }
+{
+    let Some(input) = input else {
+        return put_and(output, b"the room has no process", u64::from(process));
+    };
+    put_and(output, b"process", u64::from(process))?;
+    match input {
+        Some(value) => put_and(output, b" has the input", u64::from(value)),
+        None => output.put(b" has no input yet"),
     }
 }
 

@@ -3,6 +3,7 @@ use Rattle.std.proofs.Common.{◌≡◌, ◌∙◌, ℕ, true, List, [], ◌∷�
 use Rattle.std.specs.Prelude.{Result}
 use Rattle.std.specs.declared.alloc.AllocError.{AllocError}
 use Rattle.room_files.specs.declared.outcome.Outcome.{Outcome}
+use Rattle.room_files.specs.declared.kinds.Kinds.TheVariants.{All}
 use Rattle.room_core.specs.Calls.{RoomState}
 use Rattle.service_core.specs.declared.command.Command.{Command}
 use Rattle.service_core.specs.declared.reply.Reply.{Reply}
@@ -67,8 +68,8 @@ module _ {F : Type 0} (watcher : F → Watcher) where
       let rest = all_followed is.0 is.1 all after last is.4 one.0 one.1 in
       (rest.0, rest.1, (is.0, one.0, is.2, one.2, rest.2))
 
-  pub play_followed : (script : List ℕ) (first : F) (rooms : Entries) (last : F) (ending : Result Outcome AllocError) (so_far : SoFar) → IsPlay by_watcher script first rooms last ending → Keeps (watcher first) so_far
-      → (end : SoFar) × Keeps (watcher last) end × IsPlay IsFollowed script so_far rooms end ending
+  pub play_followed : (script : List ℕ) (first : F) (rooms : Entries) (last : F) (ending : Result Outcome AllocError) (so_far : SoFar) → IsPlay by_watcher All script first rooms last ending → Keeps (watcher first) so_far
+      → (end : SoFar) × Keeps (watcher last) end × IsPlay IsFollowed All script so_far rooms end ending
   play_followed script first rooms last ending so_far is keeps =
       let followed = all_followed [] first is.all rooms last is.followed so_far keeps in (
         followed.0,

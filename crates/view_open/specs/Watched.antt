@@ -6,6 +6,7 @@ use Rattle.json_lines.specs.Lines.{json_line}
 use Rattle.room_spec.specs.Rooms.{RoomSpec}
 use Rattle.room_core.specs.Calls.{RoomState}
 use Rattle.room_files.specs.declared.outcome.Outcome.{Outcome}
+use Rattle.room_files.specs.declared.kinds.Kinds.TheVariants.{All}
 use Rattle.run_search.specs.Outcomes.{Ends}
 use Rattle.service_core.specs.Replies.{name_in}
 use Rattle.service_core.specs.Rooms.{Entries, room_at}
@@ -97,7 +98,7 @@ pub record IsOpenFor (plan : OpenPlan) (script : List ℕ) (ending : Result Outc
   pub well : first.well ≡ true
   pub rooms : Entries
   pub played : Result Outcome AllocError
-  pub play : IsPlay IsFollowed script first rooms last played
+  pub play : IsPlay IsFollowed All script first rooms last played
   pub output_is : output ≡ last.output
   pub ending_is : ending ≡ ending_shown last.well played
 

@@ -7,7 +7,7 @@ ghost use Rattle.view_open.specs.Watched.{IsOpenFor, ending_shown};
 
 use crate::plan::OpenPlan;
 use crate::watcher::{Follower, Watcher};
-use room_files::{InputFault, Outcome};
+use room_files::{InputFault, Kinds, Outcome};
 use run_search::Progress;
 use script_play::{PlayText, Played, play_script};
 use std::alloc::{AllocError, Global};
@@ -38,7 +38,7 @@ pub fn open_outcomes<P: Progress>(
         follower,
         ending,
         ..
-    } = play_script(alloc, follower, script)?;
+    } = play_script(alloc, Kinds::All, follower, script)?;
     let Follower { watcher, .. } = follower;
     let Watcher { output, well, .. } = watcher;
     Ok(PlayText {

@@ -5,7 +5,8 @@ use Rattle.std.specs.List.{concat}
 use Rattle.std.proofs.lemmas.List.{append-nil, append_assoc, take_all, take_more}
 use Rattle.std.proofs.lemmas.List.Folds.{concat-append}
 use Rattle.std.proofs.lemmas.Option.{get_or_from_slice_get, slice_get_within}
-use Rattle.room_spec.specs.Blocks.{block_in}
+use Rattle.room_files.specs.Kinds.{block_of}
+use Rattle.room_files.specs.declared.kinds.Kinds.TheVariants.{All}
 use Rattle.room_spec.specs.Rooms.{RoomSpec}
 use Rattle.room_files.specs.BlockLists.{IsBlockAt}
 use Rattle.run_search.specs.declared.judging.Judgement.{Judgement}
@@ -40,7 +41,7 @@ pub no_answers : (search : Search) (before : List ℕ) → AddsOutcomes search [
 no_answers search before = record { texts = []; each_room = refl; after_is = sym (append-nil before) }
 
 pub one_answer_more : (search : Search) (specs : List RoomSpec) (i : ℕ) (block : List ℕ) (well one : Bool) (before so_far after : List ℕ) → IsBlockAt specs i block → AddsOutcomes search (take i specs) well before so_far
-    → ((spec : RoomSpec) → block_in block ≡ Ok (spec, length block) → (text : List ℕ) × IsRoomAnswer search spec one text × (after ≡ so_far ++ text)) → AddsOutcomes search (take (i + 1) specs) (well && one) before after
+    → ((spec : RoomSpec) → block_of All block ≡ Ok (spec, length block) → (text : List ℕ) × IsRoomAnswer search spec one text × (after ≡ so_far ++ text)) → AddsOutcomes search (take (i + 1) specs) (well && one) before after
 one_answer_more search specs i block well one before so_far after at adds more =
     let said = more at.room at.says in
     let text = said.0 in
@@ -145,8 +146,7 @@ unjudged_reported search spec block before after kept is = (unjudged_in search.f
 
 -- ---- what is asked for
 
-pub asked_reported : {E : Type 0} (search : Search) (spec : RoomSpec) (block : List ℕ) (asked : Asked) (before after : List ℕ) (result : Result Bool E) → search.asked ≡ asked → block_in block ≡ Ok (spec, length block)
-    → IfOk result (λ well. (text : List ℕ) × IsTextFor asked search spec block well text × (after ≡ before ++ text)) → IfOk result (λ well. (text : List ℕ) × IsRoomAnswer search spec well text × (after ≡ before ++ text))
-asked_reported search spec block asked before after (Ok well) is says reported =
-    (reported.0, record { block = block; says = says; text_is = subst (λ (what : Asked). IsTextFor what search spec block well reported.0) (sym is) reported.1 }, reported.2)
-asked_reported search spec block asked before after (Err error) is says reported = tt
+pub asked_reported : {E : Type 0} (search : Search) (spec : RoomSpec) (block : List ℕ) (asked : Asked) (before after : List ℕ) (result : Result Bool E) → search.asked ≡ asked
+    → IfOk result (λ well. (text : List ℕ) × IsTextFor asked search spec block well text × (after ≡ before ++ text)) → IfOk result (λ well. (text : List ℕ) × IsTextFor search.asked search spec block well text × (after ≡ before ++ text))
+asked_reported search spec block asked before after (Ok well) is reported = (reported.0, subst (λ (what : Asked). IsTextFor what search spec block well reported.0) (sym is) reported.1, reported.2)
+asked_reported search spec block asked before after (Err error) is reported = tt

@@ -18,7 +18,7 @@ use Rattle.decision_tasks.specs.declared.judging.DecisionJudgement.TheVariants a
 use Rattle.view_outcomes.specs.declared.listing.AllOutcomes.{AllOutcomes}
 use Rattle.view_outcomes.specs.declared.listing.Listed.{Listed}
 use Rattle.view_outcomes.specs.Counts.{can_be_spent}
-use Rattle.view_outcomes.specs.Json.{broken_unless, decisions_data, end_data, ends_data, found_data, judgement_data, outcome_data, room_decisions_data, room_task_data, room_vectors_data, run_data, spent_data, task_data, too_many_data, unfinished_data, unjudged_data, unsearched_data, vectors_data, verdict_data}
+use Rattle.view_outcomes.specs.Json.{agreed_data, broken_unless, decisions_data, end_data, ends_data, found_data, judgement_data, outcome_data, room_decisions_data, room_task_data, room_vectors_data, run_data, spent_data, task_data, too_many_data, unfinished_data, unjudged_data, unsearched_data, vectors_data, verdict_data}
 
 -- a value in front of others
 next : (value : Data) (rest : Bool) → has_float value ≡ false → rest ≡ false → (has_float value || rest) ≡ false
@@ -82,6 +82,9 @@ vectors_are spec limit values kept count = room_vectors_are spec limit values (n
 
 pub too_many_are : (spec : RoomSpec) (limit : ℕ) (values : List ℕ) → has_float (too_many_data spec limit values) ≡ false
 too_many_are spec limit values = room_vectors_are spec limit values null null refl refl
+
+pub agreed_is : (name inputs : List ℕ) → has_float (agreed_data name inputs) ≡ false
+agreed_is name inputs = next (numbers_data inputs) false (numbers_are inputs) refl
 
 room_decisions_are : (spec : RoomSpec) (limit : ℕ) (nodes verdict : Data) → has_float nodes ≡ false → has_float verdict ≡ false → has_float (room_decisions_data spec limit nodes verdict) ≡ false
 room_decisions_are spec limit nodes verdict of_nodes of_verdict = next verdict (has_float nodes || false) of_verdict (last nodes of_nodes)

@@ -2,7 +2,7 @@
 use Rattle.std.proofs.Common.{◌≡◌, ◌∙◌, ℕ, ◌≤◌, ◌<◌, ◌==◌, Bool, false, true, List, [], ◌++◌, None, length, take, refl, sym, ap, subst, inl, inr}
 use Rattle.std.specs.List.{concat}
 use Rattle.std.proofs.lemmas.List.{append_assoc}
-use Rattle.room_spec.specs.Rooms.{RoomSpec, processes}
+use Rattle.room_spec.specs.Rooms.{RoomSpec, processes, with_inputs}
 use Rattle.run_search.specs.declared.judging.Judgement.{Judgement}
 use Rattle.run_search.specs.Judging.{AreTooManyKept, IsJudged}
 use Rattle.view_outcomes.specs.declared.search.Search.{Search}
@@ -11,7 +11,8 @@ use Rattle.input_vectors.proofs.CallerLemmas.{all_judged, no_vectors}
 use Rattle.view_outcomes.specs.AllInputs.{IsInputsText, IsVectorText}
 use Rattle.view_outcomes.specs.Judgements.{is_kept}
 use Rattle.view_outcomes.specs.Shown.{taskless_in, too_many_in, vector_in, vector_unjudged_in, vectors_in}
-use Rattle.input_vectors.specs.Vectors.{block_with, most_vectors, vector_count, vectors, with_inputs}
+use Rattle.input_vectors.specs.Vectors.{most_vectors, vector_count, vectors}
+use Rattle.run_blocks.specs.Blocks.{room_block}
 
 -- ---- one vector more
 
@@ -23,10 +24,10 @@ all_done search spec block all i kept before after past adds = all_judged (IsVec
 
 -- ---- one vector
 
-pub judged_vector : (search : Search) (spec with : RoomSpec) (block inputs other : List ℕ) (judgement : Judgement) (kept : Bool) (before after : List ℕ) → with ≡ with_inputs spec inputs → other ≡ block_with block inputs
+pub judged_vector : (search : Search) (spec with : RoomSpec) (block inputs other : List ℕ) (judgement : Judgement) (kept : Bool) (before after : List ℕ) → with ≡ with_inputs spec inputs → other ≡ room_block spec block inputs
     → IsJudged with search.nodes judgement → kept ≡ is_kept judgement → after ≡ before ++ vector_in search.form search.brief with other inputs search.nodes judgement → (text : List ℕ) × IsVectorText search spec block inputs kept text × (after ≡ before ++ text)
 judged_vector search spec with block inputs other judgement kept before after room said judged kept_is is = (
-  vector_in search.form search.brief (with_inputs spec inputs) (block_with block inputs) inputs search.nodes judgement,
+  vector_in search.form search.brief (with_inputs spec inputs) (room_block spec block inputs) inputs search.nodes judgement,
   inl (record { judgement = judgement; judged = subst (λ (r : RoomSpec). IsJudged r search.nodes judgement) room judged; text_is = refl; kept_is = kept_is }),
   is ∙ ap (λ (r : RoomSpec). before ++ vector_in search.form search.brief r other inputs search.nodes judgement) room
       ∙ ap (λ (b : List ℕ). before ++ vector_in search.form search.brief (with_inputs spec inputs) b inputs search.nodes judgement) said,

@@ -1,9 +1,12 @@
 mod AllListed
+mod AgreedInputs
 mod Answering
 mod Counting
 mod Floats
 mod JudgingVectors
 mod Ordering
+mod SearchedInputs
 mod Spending
+mod WorkedAgreed
 mod WorkedVectors
 mod Both

@@ -1,20 +1,21 @@
 -- What is written of a room whose task is judged with all vectors of some values in place of its inputs.
 use Rattle.std.specs.Prelude.{◌≡◌, ◌⊎◌, ◌<◌, ◌≤◌, ℕ, ◌==◌, Bool, false, List, ◌++◌}
 use Rattle.std.specs.List.{concat}
-use Rattle.room_spec.specs.Rooms.{RoomSpec, processes}
+use Rattle.room_spec.specs.Rooms.{RoomSpec, processes, with_inputs}
 use Rattle.run_search.specs.declared.judging.Judgement.{Judgement}
 use Rattle.run_search.specs.Judging.{AreTooManyKept, IsJudged}
 use Rattle.view_outcomes.specs.declared.search.Search.{Search}
 use Rattle.view_outcomes.specs.Judgements.{IsTasklessText, is_kept}
 use Rattle.view_outcomes.specs.Shown.{too_many_in, vector_in, vector_unjudged_in, vectors_in}
 use Rattle.input_vectors.specs.Judged.{AreVectorTexts}
-use Rattle.input_vectors.specs.Vectors.{block_with, most_vectors, vector_count, vectors, with_inputs}
+use Rattle.input_vectors.specs.Vectors.{most_vectors, vector_count, vectors}
+use Rattle.run_blocks.specs.Blocks.{room_block}
 
 -- The text says that each run of the room with these inputs keeps its task, and search many nodes stand for the states of all runs; or that one breaks it.
 pub record IsVectorJudged (search : Search) (spec : RoomSpec) (block : List ℕ) (inputs : List ℕ) (kept : Bool) (text : List ℕ) : Type 0 where
   pub judgement : Judgement
   pub judged : IsJudged (with_inputs spec inputs) search.nodes judgement
-  pub text_is : text ≡ vector_in search.form search.brief (with_inputs spec inputs) (block_with block inputs) inputs search.nodes judgement
+  pub text_is : text ≡ vector_in search.form search.brief (with_inputs spec inputs) (room_block spec block inputs) inputs search.nodes judgement
   pub kept_is : kept ≡ is_kept judgement
 
 -- the text says that the room with these inputs has more nodes than the limit, and that no run to the states of those that were found breaks the task, and so it is

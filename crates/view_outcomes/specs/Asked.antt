@@ -40,3 +40,12 @@ is_alone (Outcome number) = true
 is_alone Task = false
 is_alone (Inputs values) = false
 is_alone (Keeps task) = false
+
+-- the inputs are given: all vectors of some values
+abbrev pub has_inputs : Asked → Bool
+has_inputs Outcomes = false
+has_inputs (First number) = false
+has_inputs (Outcome number) = false
+has_inputs Task = false
+has_inputs (Inputs values) = true
+has_inputs (Keeps task) = false

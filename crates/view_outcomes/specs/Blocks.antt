@@ -3,6 +3,7 @@ use Rattle.std.specs.Prelude.{◌≡◌, ℕ, Bool, not, ◌&&◌, ◌==◌, Lis
 use Rattle.room_files.specs.Blocks.{Setup}
 use Rattle.room_files.specs.Inputs.{all_blocks}
 use Rattle.room_files.specs.Verdicts.{outcome_if}
+use Rattle.room_files.specs.declared.kinds.Kinds.TheVariants.{All}
 use Rattle.room_files.specs.declared.outcome.Outcome.{Outcome}
 use Rattle.view_outcomes.specs.declared.search.Search.{Search}
 use Rattle.view_outcomes.specs.Asked.{is_alone}
@@ -24,4 +25,4 @@ pub record AreOutcomesWritten (search : Search) (setup : Setup) (outcome : Outco
   pub outcome_is : outcome ≡ outcome_if ((length setup.refused == 0) && well)
 
 abbrev pub IsOutcomesFor : Search → List ℕ → Outcome → List ℕ → Type 0
-IsOutcomesFor search input outcome output = AreOutcomesWritten search (all_blocks input) outcome output
+IsOutcomesFor search input outcome output = AreOutcomesWritten search (all_blocks All input) outcome output

@@ -109,6 +109,10 @@ vectors_data spec limit values kept count = room_vectors_data spec limit values 
 abbrev pub too_many_data : RoomSpec → ℕ → List ℕ → Data
 too_many_data spec limit values = room_vectors_data spec limit values null null
 
+-- the inputs on which the simulators of a reduction agree; what is said of the room that has them follows
+abbrev pub agreed_data : List ℕ → List ℕ → Data
+agreed_data name inputs = object (member (codes "inputs") (numbers_data inputs) (member (codes "room") (string name) no_members))
+
 -- ---- a task of one's own
 
 -- a run that breaks it, whether each run keeps it, and which process decided which value, in that run, that no line allows

@@ -1,8 +1,11 @@
 -- What is written of the rooms of a file: what is asked for, of each.
-use Rattle.std.specs.Prelude.{◌≡◌, ◌⊎◌, ℕ, ◌-◌, Bool, true, false, ◌&&◌, List, [], ◌∷◌, ◌++◌, length, Option, Some, None, is_none, is_some, option_map, Ok}
+use Rattle.std.specs.Prelude.{◌≡◌, ◌⊎◌, ℕ, ◌-◌, ◌≤◌, ◌==◌, Bool, true, false, not, ◌&&◌, List, [], ◌∷◌, ◌++◌, length, Option, Some, None, is_none, is_some, option_map, Ok}
 use Rattle.std.specs.List.{concat}
-use Rattle.room_spec.specs.Blocks.{block_in}
-use Rattle.room_spec.specs.Rooms.{RoomSpec, processes}
+use Rattle.room_files.specs.Kinds.{block_of}
+use Rattle.room_files.specs.declared.kinds.Kinds.TheVariants.{All}
+use Rattle.room_spec.specs.Rooms.{RoomSpec, is_reduction, processes, with_inputs}
+use Rattle.run_blocks.specs.Blocks.{room_block}
+use Rattle.run_search.specs.Agreed.{own_values}
 use Rattle.run_search.specs.Judging.{HasNodes}
 use Rattle.run_search.specs.Limits.{AreTooMany}
 use Rattle.view_outcomes.specs.declared.listing.AllOutcomes.{AllOutcomes}
@@ -10,12 +13,15 @@ use Rattle.view_outcomes.specs.declared.listing.Listed.{Listed}
 use Rattle.view_outcomes.specs.declared.search.Asked.{Asked}
 use Rattle.view_outcomes.specs.declared.search.Asked.TheVariants.{Outcomes, First, Outcome, Task, Inputs, Keeps}
 use Rattle.view_outcomes.specs.declared.search.Search.{Search}
-use Rattle.view_outcomes.specs.AllInputs.{IsInputsText}
+use Rattle.input_vectors.specs.Judged.{AreVectorTexts}
+use Rattle.input_vectors.specs.Vectors.{most_vectors, vector_count, vectors}
+use Rattle.view_outcomes.specs.AllInputs.{IsInputsText, IsTooManyText}
+use Rattle.view_outcomes.specs.Asked.{has_inputs}
 use Rattle.view_outcomes.specs.Forms.{is_brief_alone}
 use Rattle.view_outcomes.specs.Judgements.{IsTaskText}
 use Rattle.view_outcomes.specs.Keeping.{IsKeepingText}
 use Rattle.view_outcomes.specs.Listing.{AreInOrder, IsTaskOfRuns, chosen}
-use Rattle.view_outcomes.specs.Shown.{alone_in, found_shown, head_in, unfinished_in}
+use Rattle.view_outcomes.specs.Shown.{agreed_in, alone_in, found_shown, head_in, unfinished_in}
 
 -- all processes but one may stop, if the number is not said
 abbrev pub crashes_for : RoomSpec → Option ℕ → ℕ
@@ -60,7 +66,7 @@ pub record IsUnlistedText (search : Search) (spec : RoomSpec) (well : Bool) (tex
 abbrev pub IsAloneText : ℕ → Search → RoomSpec → List ℕ → Bool → List ℕ → Type 0
 IsAloneText number search spec block well text = IsChosenText number search spec block well text ⊎ IsUnlistedText search spec well text
 
--- ---- rooms
+-- ---- what is asked for
 
 -- what is asked for: all outcomes, the first ones, or one; whether each run keeps the task, with which inputs each does, or whether each keeps a task of one's own
 abbrev pub IsTextFor : Asked → Search → RoomSpec → List ℕ → Bool → List ℕ → Type 0
@@ -71,11 +77,47 @@ IsTextFor Task search spec block well text = IsTaskText search spec block well t
 IsTextFor (Inputs values) search spec block well text = IsInputsText search values.now spec block well text
 IsTextFor (Keeps task) search spec block well text = IsKeepingText task.now search spec block well text
 
+-- ---- reductions
+
+-- all vectors of the own inputs of a reduction's simulators
+abbrev pub agreed_vectors : RoomSpec → List (List ℕ)
+agreed_vectors spec = vectors (own_values spec) (processes spec)
+
+-- what is written of one of them: a line that says the inputs, and what is written of the ordinary room that has them
+pub record IsAgreedText (search : Search) (spec : RoomSpec) (block : List ℕ) (inputs : List ℕ) (well : Bool) (text : List ℕ) : Type 0 where
+  pub rest : List ℕ
+  pub rest_is : IsTextFor search.asked search (with_inputs spec inputs) (room_block spec block inputs) well rest
+  pub text_is : text ≡ agreed_in search.form spec.name inputs ++ rest
+
+-- A text for each of them, in order. All is well if it is from each.
+pub record AreAgreedTexts (search : Search) (spec : RoomSpec) (block : List ℕ) (well : Bool) (text : List ℕ) : Type 0 where
+  pub few : vector_count (own_values spec) (processes spec) ≤ most_vectors
+  pub kept : ℕ
+  pub texts : List (List ℕ)
+  pub each : AreVectorTexts (IsAgreedText search spec block) (agreed_vectors spec) kept texts
+  pub text_is : text ≡ concat texts
+  pub well_is : well ≡ (kept == vector_count (own_values spec) (processes spec))
+
+-- what is written of a reduction, whose simulators agree on the inputs; or that there are too many vectors
+abbrev pub IsReductionText : Search → RoomSpec → List ℕ → Bool → List ℕ → Type 0
+IsReductionText search spec block well text = AreAgreedTexts search spec block well text ⊎ IsTooManyText search (own_values spec) spec well text
+
+-- ---- rooms
+
+-- the room is a reduction, and its inputs are not given
+abbrev pub are_agreed : Asked → RoomSpec → Bool
+are_agreed asked spec = is_reduction spec && not (has_inputs asked)
+
+-- what is written of a room, by whether its simulators agree on the inputs
+abbrev pub IsTextBy : Bool → Search → RoomSpec → List ℕ → Bool → List ℕ → Type 0
+IsTextBy true search spec block well text = IsReductionText search spec block well text
+IsTextBy false search spec block well text = IsTextFor search.asked search spec block well text
+
 -- what is written of a room, with a block that says the room
 pub record IsRoomAnswer (search : Search) (spec : RoomSpec) (well : Bool) (text : List ℕ) : Type 0 where
   pub block : List ℕ
-  pub says : block_in block ≡ Ok (spec, length block)
-  pub text_is : IsTextFor search.asked search spec block well text
+  pub says : block_of All block ≡ Ok (spec, length block)
+  pub text_is : IsTextBy (are_agreed search.asked spec) search spec block well text
 
 -- a text for each room, in order; all is well if it is for each
 abbrev pub AreRoomAnswers : Search → List RoomSpec → Bool → List (List ℕ) → Type 0

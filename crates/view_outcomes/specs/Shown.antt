@@ -11,12 +11,12 @@ use Rattle.view_outcomes.specs.declared.search.Form.{Form}
 use Rattle.view_outcomes.specs.declared.search.Form.TheVariants.{Text, Json}
 use Rattle.view_outcomes.specs.declared.search.Search.{Search}
 use Rattle.view_outcomes.specs.Asked.{top_of}
-use Rattle.view_outcomes.specs.Json.{alone_data, decisions_data, found_data, judgement_data, outcome_data, too_many_data, unfinished_data, unjudged_data, unsearched_data, vectors_data}
+use Rattle.view_outcomes.specs.Json.{agreed_data, alone_data, decisions_data, found_data, judgement_data, outcome_data, too_many_data, unfinished_data, unjudged_data, unsearched_data, vectors_data}
 use Rattle.view_outcomes.specs.Texts.{advice, alone_text, common_text, head_line, judgement_text, more_line, outcome_text, taskless_line, unfinished_line, unjudged_text}
 use Rattle.view_outcomes.specs.Listing.{chosen}
 use Rattle.view_outcomes.specs.KeptTexts.{kept_text, unsearched_text}
 use Rattle.input_vectors.specs.Lines.{too_many_line}
-use Rattle.view_outcomes.specs.VectorTexts.{vector_text, vector_unjudged_line, kept_in_runs}
+use Rattle.view_outcomes.specs.VectorTexts.{agreed_line, vector_text, vector_unjudged_line, kept_in_runs}
 
 -- ---- all outcomes
 
@@ -99,6 +99,11 @@ vectors_in Json spec limit values kept count = json_line (vectors_data spec limi
 abbrev pub too_many_in : Form → RoomSpec → ℕ → List ℕ → List ℕ
 too_many_in Text spec limit values = too_many_line spec.name (length values)
 too_many_in Json spec limit values = json_line (too_many_data spec limit values)
+
+-- what is said of a reduction from these inputs begins so
+abbrev pub agreed_in : Form → List ℕ → List ℕ → List ℕ
+agreed_in Text name inputs = agreed_line name inputs
+agreed_in Json name inputs = json_line (agreed_data name inputs)
 
 -- ---- a task of one's own
 

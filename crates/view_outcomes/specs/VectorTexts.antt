@@ -1,5 +1,6 @@
 -- What is written of a room whose task is judged with many vectors of inputs.
 use Rattle.std.specs.Prelude.{ℕ, Bool, true, false, List, ◌∷◌, ◌++◌, codes, decimal}
+use Rattle.io_text.specs.Numbers.{numbers_text}
 use Rattle.input_vectors.specs.Lines.{vector_words, vectors_line}
 use Rattle.transcript.specs.declared.event.Event.{Event}
 use Rattle.run_search.specs.declared.judging.Judgement.{Judgement}
@@ -29,3 +30,7 @@ vector_unjudged_line name inputs limit = vector_words name inputs ++ (codes " ta
 -- for how many of how many vectors each run keeps the task
 abbrev pub kept_in_runs : List ℕ → ℕ → ℕ → List ℕ
 kept_in_runs name kept count = vectors_line name (codes " task holds in every run for") kept count
+
+-- what is said of a reduction from these inputs begins so
+abbrev pub agreed_line : List ℕ → List ℕ → List ℕ
+agreed_line name inputs = (name ++ codes " from the inputs") ++ (numbers_text inputs ++ codes ":\n")

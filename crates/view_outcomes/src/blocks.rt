@@ -6,7 +6,7 @@ ghost use Rattle.view_outcomes.specs.Blocks.{IsOutcomesFor, is_for_people, refus
 use crate::rooms::write_rooms;
 use crate::search::Search;
 use io_text::Text;
-use room_files::{Answer, BlockList, Setup, outcome_if, read_all_blocks};
+use room_files::{Answer, BlockList, Kinds, Setup, outcome_if, read_all_blocks};
 use run_search::Progress;
 use std::alloc::{AllocError, Global};
 
@@ -27,7 +27,7 @@ pub fn search_blocks<P: Progress>(
     ensures { IfOk result (λ answer. IsOutcomesFor search.now input.now answer.outcome answer.output) }
 {
     let no_blocks = Setup::new(BlockList::new(alloc), Text::new(alloc));
-    let Setup { rooms, refused, .. } = read_all_blocks(alloc, no_blocks, input)?;
+    let Setup { rooms, refused, .. } = read_all_blocks(alloc, Kinds::All, no_blocks, input)?;
     let is_accepted = refused.is_empty();
     let mut output = refused_in(alloc, search, refused);
     let is_well = write_rooms(alloc, &rooms, search, &mut output, progress)?;

@@ -1,6 +1,6 @@
 //! Whether each run of a room keeps its task, with all vectors of some values in place of its inputs.
 ghost use Rattle.std.specs.Prelude.{◌≡◌, ◌++◌, IfOk, IsSome, ℕ, List, length};
-ghost use Rattle.room_spec.specs.Grammar.{IsBlock};
+ghost use Rattle.run_blocks.specs.Blocks.{IsRoomBlock};
 ghost use Rattle.room_spec.specs.Rooms.{processes};
 ghost use Rattle.input_vectors.specs.Judged.{AddsVectors};
 ghost use Rattle.input_vectors.specs.Vectors.{vectors};
@@ -9,8 +9,9 @@ ghost use Rattle.view_outcomes.specs.AllInputs.{IsInputsText, IsVectorText};
 use crate::judging::is_kept;
 use crate::search::SearchedRoom;
 use crate::shown::{show_taskless, show_too_many, show_vector, show_vector_unjudged, show_vectors};
-use input_vectors::{all_vectors, count_if_few, room_with};
+use input_vectors::{all_vectors, count_if_few};
 use io_text::Text;
+use run_blocks::room_with;
 use run_search::{Progress, SearchFault, judge_task};
 use std::alloc::AllocError;
 
@@ -22,7 +23,7 @@ pub fn judge_all<P: Progress>(
     output: &mut Text,
     progress: &mut P,
 ) -> Result<bool, AllocError>
-    requires { IsBlock room.now.block.now room.now.spec.now (length room.now.block.now) }
+    requires { IsRoomBlock room.now.block.now room.now.spec.now }
     ensures { IfOk result (λ well. (text : List ℕ) × IsInputsText room.now.search.now values.now room.now.spec.now room.now.block.now well text × (output.new ≡ output.old ++ text)) }
 {
     let Some(_task) = room.spec.task() else {
@@ -45,7 +46,7 @@ fn judge_vectors<P: Progress>(
     output: &mut Text,
     progress: &mut P,
 ) -> Result<usize, AllocError>
-    requires block { IsBlock room.now.block.now room.now.spec.now (length room.now.block.now) }
+    requires block { IsRoomBlock room.now.block.now room.now.spec.now }
     requires task { IsSome room.now.spec.now.task }
     ensures { IfOk result (λ kept. AddsVectors (IsVectorText room.now.search.now room.now.spec.now room.now.block.now) (vectors values.now (processes room.now.spec.now)) kept output.old output.new) }
 {
@@ -66,7 +67,7 @@ fn judge_vector<P: Progress>(
     output: &mut Text,
     progress: &mut P,
 ) -> Result<bool, AllocError>
-    requires block { IsBlock room.now.block.now room.now.spec.now (length room.now.block.now) }
+    requires block { IsRoomBlock room.now.block.now room.now.spec.now }
     requires task { IsSome room.now.spec.now.task }
     requires inputs { length inputs.now ≡ processes room.now.spec.now }
     ensures { IfOk result (λ kept. (text : List ℕ) × IsVectorText room.now.search.now room.now.spec.now room.now.block.now inputs.now kept text × (output.new ≡ output.old ++ text)) }

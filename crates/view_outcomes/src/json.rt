@@ -7,7 +7,7 @@ ghost use Rattle.json_lines.specs.Lines.{json_line};
 ghost use Rattle.json_lines.specs.Values.{number_data, numbers_data};
 ghost use Rattle.view_outcomes.specs.Counts.{can_be_spent};
 ghost use Rattle.view_outcomes.specs.Listing.{chosen};
-ghost use Rattle.view_outcomes.specs.Json.{alone_data, break_data, broken_unless, decisions_data, end_data, ends_data, found_data, judgement_data, none_data, outcome_data, room_decisions_data, room_task_data, room_vectors_data, run_data, spent_data, task_data, too_many_data, unfinished_data, unjudged_data, unsearched_data, vectors_data, verdict_data};
+ghost use Rattle.view_outcomes.specs.Json.{agreed_data, alone_data, break_data, broken_unless, decisions_data, end_data, ends_data, found_data, judgement_data, none_data, outcome_data, room_decisions_data, room_task_data, room_vectors_data, run_data, spent_data, task_data, too_many_data, unfinished_data, unjudged_data, unsearched_data, vectors_data, verdict_data};
 
 use crate::counts::{can_be_spent, most_values};
 use crate::listing::{AllOutcomes, Listed, chosen};
@@ -379,6 +379,25 @@ fn room_vectors_value(
     let name = spec.name().as_str();
     let values = values_value(alloc, values)?;
     json!(in alloc; {"kept": kept, "limit": limit, "room": name, "values": values, "vectors": count})
+}
+
+/// Writes the inputs on which the simulators of a reduction agree.
+pub fn write_agreed_object(
+    room: &SearchedRoom<'_>,
+    output: &mut Text,
+    inputs: &[u32],
+) -> Result<(), AllocError>
+    ensures { OnOk result (output.new ≡ output.old ++ json_line (agreed_data room.now.spec.now.name inputs.now)) }
+{
+    let value = agreed_value(room.alloc, room.spec.name().as_str(), inputs)?;
+    write_line(room.alloc, output, &value)
+}
+
+fn agreed_value(alloc: Global, name: &str, inputs: &[u32]) -> Result<Value, AllocError>
+    ensures { IfOk result (λ value. view value ≡ agreed_data name.now inputs.now) }
+{
+    let inputs = values_value(alloc, inputs)?;
+    json!(in alloc; {"inputs": inputs, "room": name})
 }
 
 // ---- a task of one's own

@@ -9,6 +9,7 @@ mod json;
 mod judging;
 mod keeping;
 mod kept_text;
+pub mod laws;
 mod listing;
 mod rooms;
 mod search;

@@ -1,22 +1,28 @@
 //! The outcomes of the rooms of a file.
 ghost use Rattle.std.specs.Prelude.{◌≡◌, ◌++◌, ◌&&◌, Ok, IfOk, ℕ, List, length};
 ghost use Rattle.room_files.specs.BlockLists.{IsBlockAt};
-ghost use Rattle.room_spec.specs.Blocks.{block_in};
-ghost use Rattle.room_spec.specs.Grammar.{IsBlock};
-ghost use Rattle.room_spec.specs.Rooms.{RoomSpec};
-ghost use Rattle.view_outcomes.specs.Rooms.{AddsOutcomes, IsAloneText, IsListText, IsRoomAnswer, crashes_for};
+ghost use Rattle.room_files.specs.Kinds.{block_of};
+ghost use Rattle.room_files.specs.declared.kinds.Kinds.TheVariants.{All};
+ghost use Rattle.run_blocks.specs.Blocks.{IsRoomBlock};
+ghost use Rattle.room_spec.specs.Rooms.{RoomSpec, processes};
+ghost use Rattle.run_search.specs.Agreed.{own_values};
+ghost use Rattle.input_vectors.specs.Judged.{AddsVectors};
+ghost use Rattle.view_outcomes.specs.Rooms.{AddsOutcomes, IsAgreedText, IsAloneText, IsListText, IsReductionText, IsRoomAnswer, IsTextFor, agreed_vectors, crashes_for};
 
 use crate::inputs::judge_all;
 use crate::judging::judge;
 use crate::keeping::judge_both;
 use crate::listing::{find_all, find_listed, has_outcome};
 use crate::search::{Asked, Search, SearchedRoom};
-use crate::shown::{show_alone, show_found, show_head, show_unfinished, show_unlisted};
-use input_vectors::room_of;
+use crate::shown::{
+    show_agreed, show_alone, show_found, show_head, show_too_many, show_unfinished, show_unlisted,
+};
+use input_vectors::{all_vectors, count_if_few};
 use io_text::Text;
 use room_files::BlockList;
 use room_spec::Spec;
-use run_search::{Progress, SearchFault};
+use run_blocks::{room_of, room_with};
+use run_search::{Progress, SearchFault, own_values};
 use std::alloc::{AllocError, Global};
 
 /// Writes what is asked for of each room. Gives whether all is well: each room was searched to the end, and each run of each keeps its room's task; or, if one outcome is
@@ -46,8 +52,8 @@ fn write_room<P: Progress>(
     output: &mut Text,
     progress: &mut P,
 ) -> Result<bool, AllocError>
-    requires { (spec : RoomSpec) × (block_in block.now ≡ Ok (spec, length block.now)) }
-    ensures { IfOk result (λ well. (spec : RoomSpec) → block_in block.now ≡ Ok (spec, length block.now) →
+    requires { (spec : RoomSpec) × (block_of All block.now ≡ Ok (spec, length block.now)) }
+    ensures { IfOk result (λ well. (spec : RoomSpec) → block_of All block.now ≡ Ok (spec, length block.now) →
         (text : List ℕ) × IsRoomAnswer search.now spec well text × (output.new ≡ output.old ++ text)) }
 {
     let spec = room_of(alloc, block)?;
@@ -60,15 +66,31 @@ fn write_room<P: Progress>(
     answer(&room, output, progress)
 }
 
-/// Writes what is asked for of a room.
+/// Writes what is asked for of a room: of a reduction from each vector of its simulators' own inputs, if none are given.
 fn answer<P: Progress>(
     room: &SearchedRoom<'_>,
     output: &mut Text,
     progress: &mut P,
 ) -> Result<bool, AllocError>
-    requires says { block_in room.now.block.now ≡ Ok (room.now.spec.now, length room.now.block.now) }
-    requires block { IsBlock room.now.block.now room.now.spec.now (length room.now.block.now) }
+    requires says { block_of All room.now.block.now ≡ Ok (room.now.spec.now, length room.now.block.now) }
+    requires block { IsRoomBlock room.now.block.now room.now.spec.now }
     ensures { IfOk result (λ well. (text : List ℕ) × IsRoomAnswer room.now.search.now room.now.spec.now well text × (output.new ≡ output.old ++ text)) }
+{
+    if room.spec.is_reduction() && !room.search.asked.has_inputs() {
+        answer_agreed(room, output, progress)
+    } else {
+        answer_one(room, output, progress)
+    }
+}
+
+/// Writes what is asked for of an ordinary room, or of a reduction whose inputs are given.
+fn answer_one<P: Progress>(
+    room: &SearchedRoom<'_>,
+    output: &mut Text,
+    progress: &mut P,
+) -> Result<bool, AllocError>
+    requires block { IsRoomBlock room.now.block.now room.now.spec.now }
+    ensures { IfOk result (λ well. (text : List ℕ) × IsTextFor room.now.search.now.asked room.now.search.now room.now.spec.now room.now.block.now well text × (output.new ≡ output.old ++ text)) }
 {
     match room.search.asked {
         Asked::Outcomes | Asked::First(_) => list(room, output, progress),
@@ -78,6 +100,72 @@ fn answer<P: Progress>(
         Asked::Keeps(task) => judge_both(room, task, output, progress),
     }
 }
+
+// ---- reductions
+
+/// Writes what is asked for of a reduction, from each vector of its simulators' own inputs; or that there are too many. Gives whether all is well from each.
+fn answer_agreed<P: Progress>(
+    room: &SearchedRoom<'_>,
+    output: &mut Text,
+    progress: &mut P,
+) -> Result<bool, AllocError>
+    requires { IsRoomBlock room.now.block.now room.now.spec.now }
+    ensures { IfOk result (λ well. (text : List ℕ) × IsReductionText room.now.search.now room.now.spec.now room.now.block.now well text × (output.new ≡ output.old ++ text)) }
+{
+    let own = own_values(room.spec);
+    let values = own.as_slice();
+    let Some(count) = count_if_few(values.len(), room.spec.n()) else {
+        show_too_many(room, output, values)?;
+        return Ok(false);
+    };
+    let kept = answer_each(room, values, output, progress)?;
+    Ok(kept == count)
+}
+
+/// Writes what is asked for of a reduction, from each vector of its own inputs. Gives from how many of them all is well.
+fn answer_each<P: Progress>(
+    room: &SearchedRoom<'_>,
+    values: &[u32],
+    output: &mut Text,
+    progress: &mut P,
+) -> Result<usize, AllocError>
+    requires block { IsRoomBlock room.now.block.now room.now.spec.now }
+    requires values { values.now ≡ own_values room.now.spec.now }
+    ensures { IfOk result (λ kept. AddsVectors (IsAgreedText room.now.search.now room.now.spec.now room.now.block.now) (agreed_vectors room.now.spec.now) kept output.old output.new) }
+{
+    let all = all_vectors(room.alloc, values, room.spec.n())?;
+    let mut kept = 0;
+    for index in 0..all.len() {
+        let inputs = all[index].as_slice();
+        let one = answer_vector(room, inputs, output, progress)?;
+        kept += usize::from(one);
+    }
+    Ok(kept)
+}
+
+/// Writes these inputs, and what is asked for of the ordinary room that has them. Gives whether all is well in it.
+fn answer_vector<P: Progress>(
+    room: &SearchedRoom<'_>,
+    inputs: &[u32],
+    output: &mut Text,
+    progress: &mut P,
+) -> Result<bool, AllocError>
+    requires block { IsRoomBlock room.now.block.now room.now.spec.now }
+    requires inputs { length inputs.now ≡ processes room.now.spec.now }
+    ensures { IfOk result (λ well. (text : List ℕ) × IsAgreedText room.now.search.now room.now.spec.now room.now.block.now inputs.now well text × (output.new ≡ output.old ++ text)) }
+{
+    let (spec, text) = room_with(room.alloc, room.spec, room.block, inputs)?;
+    let other = SearchedRoom {
+        alloc: room.alloc,
+        spec: &spec,
+        block: text.as_bytes(),
+        search: room.search,
+    };
+    show_agreed(room, output, inputs)?;
+    answer_one(&other, output, progress)
+}
+
+// ---- what is asked for
 
 /// Writes all outcomes of a room, or the first ones; or that it has too many nodes.
 fn list<P: Progress>(

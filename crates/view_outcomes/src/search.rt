@@ -1,6 +1,6 @@
 //! What is asked of the rooms of a file.
 ghost use Rattle.std.specs.Prelude.{◌≡◌};
-ghost use Rattle.view_outcomes.specs.Asked.{is_alone, top_of};
+ghost use Rattle.view_outcomes.specs.Asked.{has_inputs, is_alone, top_of};
 ghost use Rattle.view_outcomes.specs.Blocks.{is_for_people};
 ghost use Rattle.view_outcomes.specs.Forms.{form_if, is_brief_alone, is_text};
 
@@ -41,6 +41,13 @@ impl Asked<'_> {
         ensures { result ≡ is_alone self.entry }
     {
         matches!(self, Asked::Outcome(_))
+    }
+
+    /// Whether the inputs are given: all vectors of some values.
+    pub(crate) fn has_inputs(self) -> bool
+        ensures { result ≡ has_inputs self.entry }
+    {
+        matches!(self, Asked::Inputs(_))
     }
 }
 

@@ -2,13 +2,13 @@
 ghost use Rattle.std.specs.Prelude.{◌≡◌, ◌≤◌, ◌-◌, ◌++◌, OnOk, length, take};
 ghost use Rattle.std.specs.List.{flat_map};
 ghost use Rattle.view_outcomes.specs.Asked.{top_of};
-ghost use Rattle.view_outcomes.specs.Shown.{alone_in, common_in, decisions_in, found_shown, head_in, judgement_in, listed_shown, more_in, outcome_in, outcomes_shown, shown_count, taskless_in, too_many_in, unfinished_in, unjudged_in, unsearched_in, vector_in, vector_unjudged_in, vectors_in};
+ghost use Rattle.view_outcomes.specs.Shown.{agreed_in, alone_in, common_in, decisions_in, found_shown, head_in, judgement_in, listed_shown, more_in, outcome_in, outcomes_shown, shown_count, taskless_in, too_many_in, unfinished_in, unjudged_in, unsearched_in, vector_in, vector_unjudged_in, vectors_in};
 
 use crate::alone_text::write_alone;
 use crate::json::{
-    write_alone_line, write_decisions_line, write_found_line, write_judgement_line,
-    write_outcome_line, write_too_many_object, write_unfinished_object, write_unjudged_line,
-    write_unsearched_line, write_vectors_object,
+    write_agreed_object, write_alone_line, write_decisions_line, write_found_line,
+    write_judgement_line, write_outcome_line, write_too_many_object, write_unfinished_object,
+    write_unjudged_line, write_unsearched_line, write_vectors_object,
 };
 use crate::kept_text::{write_judged, write_unsearched};
 use crate::listing::{AllOutcomes, Listed};
@@ -17,7 +17,7 @@ use crate::text::{
     write_common, write_head, write_judgement, write_more, write_outcome, write_taskless,
     write_unfinished, write_unjudged,
 };
-use crate::vector_text::{write_kept_in_runs, write_vector, write_vector_unjudged};
+use crate::vector_text::{write_agreed, write_kept_in_runs, write_vector, write_vector_unjudged};
 use decision_tasks::DecisionJudgement;
 use input_vectors::write_too_many;
 use io_text::Text;
@@ -263,6 +263,23 @@ pub fn show_too_many(
             write_too_many(output, name, values.len())
         }
         Form::Json => write_too_many_object(room, output, values),
+    }
+}
+
+/// Writes with what that is said of a reduction from these inputs begins.
+pub fn show_agreed(
+    room: &SearchedRoom<'_>,
+    output: &mut Text,
+    inputs: &[u32],
+) -> Result<(), AllocError>
+    ensures { OnOk result (output.new ≡ output.old ++ agreed_in room.now.search.now.form room.now.spec.now.name inputs.now) }
+{
+    match room.search.form {
+        Form::Text => {
+            let name = room.spec.name().as_str().as_bytes();
+            write_agreed(output, name, inputs)
+        }
+        Form::Json => write_agreed_object(room, output, inputs),
     }
 }
 

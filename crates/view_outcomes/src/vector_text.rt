@@ -1,11 +1,13 @@
 //! How vectors of inputs are judged, as text.
-ghost use Rattle.std.specs.Prelude.{◌≡◌, ◌++◌, OnOk};
-ghost use Rattle.view_outcomes.specs.VectorTexts.{broken_words, kept_in_runs, kept_words, vector_text, vector_unjudged_line, verdict_words};
+ghost use Rattle.std.specs.Prelude.{◌≡◌, ◌++◌, OnOk, codes};
+ghost use Rattle.io_text.specs.Numbers.{numbers_text};
+ghost use Rattle.view_outcomes.specs.VectorTexts.{agreed_line, broken_words, kept_in_runs, kept_words, vector_text, vector_unjudged_line, verdict_words};
 
 use crate::search::SearchedRoom;
 use crate::text::{write_transcript, write_unfinished};
 use input_vectors::{write_vector_words, write_vectors_line};
 use io_text::Text;
+use run_blocks::put_inputs;
 use run_search::Judgement;
 use std::alloc::AllocError;
 use transcript::Event;
@@ -94,4 +96,19 @@ pub fn write_kept_in_runs(
     ensures { OnOk result (output.new ≡ output.old ++ kept_in_runs name.now kept count) }
 {
     write_vectors_line(output, name, b" task holds in every run for", kept, count)
+}
+
+/// Writes the line with which what is said of a reduction from these inputs begins.
+pub fn write_agreed(output: &mut Text, name: &[u8], inputs: &[u32]) -> Result<(), AllocError>
+    ensures { OnOk result (output.new ≡ output.old ++ agreed_line name.now inputs.now) }
+{
+    output.put_two(name, b" from the inputs")?;
+    put_agreed(output, inputs)
+}
+
+fn put_agreed(output: &mut Text, inputs: &[u32]) -> Result<(), AllocError>
+    ensures { OnOk result (output.new ≡ output.old ++ (numbers_text inputs.now ++ codes ":\n")) }
+{
+    put_inputs(output, inputs)?;
+    output.put(b":\n")
 }

@@ -9,6 +9,7 @@ use Rattle.room_files.specs.declared.fault.InputFault.TheVariants.{BadInput, Mem
 use Rattle.room_files.specs.Inputs.{input_says}
 use Rattle.room_files.specs.declared.outcome.Outcome.{Outcome}
 use Rattle.room_files.specs.declared.outcome.Outcome.TheVariants.{AllWell, SomeRefused}
+use Rattle.room_files.specs.declared.kinds.Kinds.TheVariants.{All}
 use Rattle.script_play.specs.Script.{script_says}
 use Rattle.file_faults.specs.Kinds.{kind_of as read_as}
 use Rattle.file_faults.specs.declared.kinds.Kind.{Kind}
@@ -62,7 +63,7 @@ fault_in (Err fault) = Some fault
 -- a file's first fault and its line, if it has one
 abbrev pub first_fault : FileKind → List ℕ → Option FaultAt
 first_fault Script file = fault_in (script_says file)
-first_fault Transcript file = fault_in (input_says file)
+first_fault Transcript file = fault_in (input_says All file)
 
 -- ---- one or two files
 

@@ -4,6 +4,7 @@ ghost use Rattle.io_text.specs.Reading.{most_bytes};
 ghost use Rattle.view_page.specs.Faults.{AreBothFaults, AreFileFaults, said_in};
 ghost use Rattle.room_files.specs.Blocks.{IsFaultOr};
 ghost use Rattle.room_files.specs.Inputs.{MayLackMemory, input_says};
+ghost use Rattle.room_files.specs.declared.kinds.Kinds.TheVariants.{All};
 ghost use Rattle.step_page.specs.Pages.{file_text, page_text};
 ghost use Rattle.step_page.specs.declared.page.FileKind.TheVariants.{Script};
 ghost use Rattle.view_page.specs.Pages.{IsFaultOf, IsFileAnswer, IsKeptPage, IsOpenPage, IsPageFor, as_json, both, fault_among, first_fault, kind_of};
@@ -128,7 +129,7 @@ pub fn page_of_kept(
 ) -> Result<Answer, InputFault>
     requires { length transcript.now ≤ most_bytes }
     ensures text { IfOk result (λ paged. IsKeptPage task.now transcript.now paged.outcome paged.output) }
-    ensures err { IfErr result (IsFaultOr (MayLackMemory transcript.now) (input_says transcript.now)) }
+    ensures err { IfErr result (IsFaultOr (MayLackMemory All transcript.now) (input_says All transcript.now)) }
 {
     let answer = explain_kept(alloc, transcript, false, task)?;
     let said = answer.output.as_bytes();

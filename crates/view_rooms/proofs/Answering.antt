@@ -7,7 +7,8 @@ use Rattle.std.proofs.lemmas.List.Elements.{Contains-get_or}
 use Rattle.std.proofs.lemmas.List.Folds.{concat-append}
 use Rattle.std.proofs.lemmas.List.Sorted.{All-permutation}
 use Rattle.std.proofs.lemmas.Option.{get_or_from_slice_get, slice_get_within}
-use Rattle.room_spec.specs.Blocks.{block_in}
+use Rattle.room_files.specs.Kinds.{block_of}
+use Rattle.room_files.specs.declared.kinds.Kinds.TheVariants as kinds
 use Rattle.room_spec.specs.Rooms.{IsWithinLimits, RoomSpec}
 use Rattle.ws_history.specs.declared.states.ProcessState.{ProcessState}
 use Rattle.room_files.specs.BlockLists.{IsBlockAt}
@@ -40,7 +41,7 @@ pub no_texts : (plan : RoomPlan) (before : List ℕ) → AddsOutcomes plan [] tr
 no_texts plan before = record { texts = []; each_room = refl; after_is = sym (append-nil before) }
 
 pub one_text_more : (plan : RoomPlan) (specs : List RoomSpec) (i : ℕ) (block : List ℕ) (well one : Bool) (before so_far after : List ℕ) → IsBlockAt specs i block → AddsOutcomes plan (take i specs) well before so_far
-    → ((spec : RoomSpec) → block_in block ≡ Ok (spec, length block) → (text : List ℕ) × IsRoomText plan spec one text × (after ≡ so_far ++ text)) → AddsOutcomes plan (take (i + 1) specs) (well && one) before after
+    → ((spec : RoomSpec) → block_of kinds.All block ≡ Ok (spec, length block) → (text : List ℕ) × IsRoomText plan spec one text × (after ≡ so_far ++ text)) → AddsOutcomes plan (take (i + 1) specs) (well && one) before after
 one_text_more plan specs i block well one before so_far after at adds more =
     let said = more at.room at.says in
     let text = said.0 in
@@ -60,31 +61,31 @@ all_texts plan specs i well before after past adds = subst (λ (rooms : List Roo
 
 -- ---- the room of a block
 
-same_read : (block : List ℕ) (one other : RoomSpec × ℕ) → block_in block ≡ Ok one → block_in block ≡ Ok other → one ≡ other
+same_read : (block : List ℕ) (one other : RoomSpec × ℕ) → block_of kinds.All block ≡ Ok one → block_of kinds.All block ≡ Ok other → one ≡ other
 same_read block one other read says = cc
 
-pub own_room : (block : List ℕ) (spec : RoomSpec) (len : ℕ) → block_in block ≡ Ok (spec, len) → (said : RoomSpec) × (block_in block ≡ Ok (said, length block)) → block_in block ≡ Ok (spec, length block)
+pub own_room : (block : List ℕ) (spec : RoomSpec) (len : ℕ) → block_of kinds.All block ≡ Ok (spec, len) → (said : RoomSpec) × (block_of kinds.All block ≡ Ok (said, length block)) → block_of kinds.All block ≡ Ok (spec, length block)
 own_room block spec len read says =
-    subst (λ (room : RoomSpec). block_in block ≡ Ok (room, length block)) (ap (λ (one : RoomSpec × ℕ). one.0) (same_read block (says.0, length block) (spec, len) says.1 read)) says.1
+    subst (λ (room : RoomSpec). block_of kinds.All block ≡ Ok (room, length block)) (ap (λ (one : RoomSpec × ℕ). one.0) (same_read block (says.0, length block) (spec, len) says.1 read)) says.1
 
-pub of_said : (P : RoomSpec → Type 0) (block : List ℕ) (spec said : RoomSpec) → block_in block ≡ Ok (spec, length block) → block_in block ≡ Ok (said, length block) → P spec → P said
+pub of_said : (P : RoomSpec → Type 0) (block : List ℕ) (spec said : RoomSpec) → block_of kinds.All block ≡ Ok (spec, length block) → block_of kinds.All block ≡ Ok (said, length block) → P spec → P said
 of_said P block spec said own says is = subst P (ap (λ (one : RoomSpec × ℕ). one.0) (same_read block (spec, length block) (said, length block) own says)) is
 
 -- what was written of the room that the block says, whatever says it
-pub reported_of_said : {E : Type 0} (plan : RoomPlan) (block : List ℕ) (spec : RoomSpec) (before after : List ℕ) (result : Result Bool E) → block_in block ≡ Ok (spec, length block)
+pub reported_of_said : {E : Type 0} (plan : RoomPlan) (block : List ℕ) (spec : RoomSpec) (before after : List ℕ) (result : Result Bool E) → block_of kinds.All block ≡ Ok (spec, length block)
     → IfOk result (λ well. (text : List ℕ) × IsRoomText plan spec well text × (after ≡ before ++ text))
-    → IfOk result (λ well. (said : RoomSpec) → block_in block ≡ Ok (said, length block) → (text : List ℕ) × IsRoomText plan said well text × (after ≡ before ++ text))
+    → IfOk result (λ well. (said : RoomSpec) → block_of kinds.All block ≡ Ok (said, length block) → (text : List ℕ) × IsRoomText plan said well text × (after ≡ before ++ text))
 reported_of_said plan block spec before after (Ok well) own reported = λ said says. of_said (λ (room : RoomSpec). (text : List ℕ) × IsRoomText plan room well text × (after ≡ before ++ text)) block spec said own says reported
 reported_of_said plan block spec before after (Err error) own reported = tt
 
 -- ---- one room
 
 abbrev pub Lead : Type 0
-Lead = (spec : RoomSpec) (crashes : ℕ) (block : List ℕ) (schedule : List Stretch) (states : List ProcessState) → IsWithinLimits spec → block_in block ≡ Ok (spec, length block) → IsOutcome spec crashes schedule states
-    → LeadsTo spec.name schedule states (script_text spec.name block schedule)
+Lead = (spec : RoomSpec) (crashes : ℕ) (block : List ℕ) (schedule : List Stretch) (states : List ProcessState) → IsWithinLimits spec → block_of kinds.All block ≡ Ok (spec, length block) → IsOutcome spec crashes schedule states
+    → LeadsTo block spec.name schedule states (script_text spec.name block schedule)
 
 -- the script of each outcome leads to it
-scripts_lead : (spec : RoomSpec) (block : List ℕ) (crashes limit : ℕ) (all : Reach) → Lead → IsWithinLimits spec → block_in block ≡ Ok (spec, length block) → AreInOrder spec crashes limit all → All (HasScript spec.name block) all.outcomes.items
+scripts_lead : (spec : RoomSpec) (block : List ℕ) (crashes limit : ℕ) (all : Reach) → Lead → IsWithinLimits spec → block_of kinds.All block ≡ Ok (spec, length block) → AreInOrder spec crashes limit all → All (HasScript spec.name block) all.outcomes.items
 scripts_lead spec block crashes limit all leads limits says is =
     All-permutation (HasScript spec.name block) is.found all.outcomes.items is.same
     (λ i d below.
@@ -92,7 +93,7 @@ scripts_lead spec block crashes limit all leads limits says is =
     leads spec crashes block one.schedule.items one.states.items limits says (is.reached.sound one (Contains-get_or is.found i d below)))
 
 -- what was written of a room that was searched to the end
-pub found_reported : (plan : RoomPlan) (spec : RoomSpec) (block : List ℕ) (crashes : ℕ) (all : Reach) (well : Bool) (before head after : List ℕ) → Lead → IsWithinLimits spec → block_in block ≡ Ok (spec, length block) → crashes ≡ crashes_for spec plan.crashes
+pub found_reported : (plan : RoomPlan) (spec : RoomSpec) (block : List ℕ) (crashes : ℕ) (all : Reach) (well : Bool) (before head after : List ℕ) → Lead → IsWithinLimits spec → block_of kinds.All block ≡ Ok (spec, length block) → crashes ≡ crashes_for spec plan.crashes
     → AreInOrder spec crashes plan.nodes all → well ≡ (all.missed == 0) → head ≡ before ++ head_shown plan.json spec.name crashes → after ≡ head ++ found_shown plan spec block crashes all
     → (text : List ℕ) × IsRoomText plan spec well text × (after ≡ before ++ text)
 found_reported plan spec block crashes all well before head after leads limits says crashes_is outcomes well_is head_is after_is =
@@ -118,7 +119,7 @@ found_reported plan spec block crashes all well before head after leads limits s
     )
 
 -- and of one with more nodes than the limit
-pub unfinished_reported : (plan : RoomPlan) (spec : RoomSpec) (block : List ℕ) (crashes : ℕ) (before head after : List ℕ) → block_in block ≡ Ok (spec, length block) → crashes ≡ crashes_for spec plan.crashes
+pub unfinished_reported : (plan : RoomPlan) (spec : RoomSpec) (block : List ℕ) (crashes : ℕ) (before head after : List ℕ) → block_of kinds.All block ≡ Ok (spec, length block) → crashes ≡ crashes_for spec plan.crashes
     → head ≡ before ++ head_shown plan.json spec.name crashes → after ≡ head ++ unfinished_shown plan.json spec crashes plan.nodes → (text : List ℕ) × IsRoomText plan spec false text × (after ≡ before ++ text)
 unfinished_reported plan spec block crashes before head after says crashes_is head_is after_is =
     let rest = unfinished_shown plan.json spec crashes plan.nodes in

@@ -4,6 +4,7 @@ use Rattle.room_files.specs.Blocks.{Setup}
 use Rattle.room_files.specs.Inputs.{all_blocks}
 use Rattle.room_files.specs.Verdicts.{outcome_if}
 use Rattle.room_files.specs.declared.outcome.Outcome.{Outcome}
+use Rattle.room_files.specs.declared.kinds.Kinds.TheVariants.{All}
 use Rattle.view_rooms.specs.declared.plan.RoomPlan.{RoomPlan}
 use Rattle.view_rooms.specs.Rooms.{AddsOutcomes}
 
@@ -18,4 +19,4 @@ pub record AreRoomsWritten (plan : RoomPlan) (setup : Setup) (outcome : Outcome)
   pub outcome_is : outcome ≡ outcome_if ((length setup.refused == 0) && well)
 
 abbrev pub IsRoomsFor : RoomPlan → List ℕ → Outcome → List ℕ → Type 0
-IsRoomsFor plan input outcome output = AreRoomsWritten plan (all_blocks input) outcome output
+IsRoomsFor plan input outcome output = AreRoomsWritten plan (all_blocks All input) outcome output

@@ -31,4 +31,4 @@ pub record AreInOrder (spec : RoomSpec) (crashes limit : ℕ) (all : Reach) : Ty
 
 -- The script of the outcome leads to it: `play` replies that the room takes each step and crash of its schedule, and then reports these states.
 abbrev pub HasScript : List ℕ → List ℕ → Reached → Type 0
-HasScript name block one = LeadsTo name one.schedule.items one.states.items (script_text name block one.schedule.items)
+HasScript name block one = LeadsTo block name one.schedule.items one.states.items (script_text name block one.schedule.items)

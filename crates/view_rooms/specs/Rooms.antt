@@ -1,7 +1,8 @@
 -- What is written of the rooms of a file.
 use Rattle.std.specs.Prelude.{◌≡◌, ◌⊎◌, ℕ, ◌-◌, ◌==◌, Bool, true, false, ◌&&◌, List, [], ◌∷◌, ◌++◌, length, Option, Some, None, Ok}
 use Rattle.std.specs.List.{All, concat}
-use Rattle.room_spec.specs.Blocks.{block_in}
+use Rattle.room_files.specs.Kinds.{block_of}
+use Rattle.room_files.specs.declared.kinds.Kinds.TheVariants as kinds
 use Rattle.room_spec.specs.Rooms.{RoomSpec}
 use Rattle.room_search.specs.declared.search.Reach.{Reach}
 use Rattle.view_rooms.specs.declared.plan.RoomPlan.{RoomPlan}
@@ -30,7 +31,7 @@ pub record IsUnfinishedText (plan : RoomPlan) (spec : RoomSpec) (well : Bool) (t
 -- what is written of a room, with a block that says the room
 pub record IsRoomText (plan : RoomPlan) (spec : RoomSpec) (well : Bool) (text : List ℕ) : Type 0 where
   pub block : List ℕ
-  pub says : block_in block ≡ Ok (spec, length block)
+  pub says : block_of kinds.All block ≡ Ok (spec, length block)
   pub rest : List ℕ
   pub rest_is : IsFoundText plan spec block well rest ⊎ IsUnfinishedText plan spec well rest
   pub text_is : text ≡ head_shown plan.json spec.name (crashes_for spec plan.crashes) ++ rest

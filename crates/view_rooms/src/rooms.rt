@@ -1,7 +1,8 @@
 //! The outcomes of the rooms of a file.
 ghost use Rattle.std.specs.Prelude.{◌≡◌, ◌++◌, ◌&&◌, Ok, IfOk, ℕ, List, length};
 ghost use Rattle.room_files.specs.BlockLists.{IsBlockAt};
-ghost use Rattle.room_spec.specs.Blocks.{block_in};
+ghost use Rattle.room_files.specs.Kinds.{block_of};
+ghost use Rattle.room_files.specs.declared.kinds.Kinds.TheVariants.{All};
 ghost use Rattle.room_spec.specs.Rooms.{RoomSpec};
 ghost use Rattle.view_rooms.specs.Rooms.{AddsOutcomes, IsRoomText, crashes_for};
 
@@ -9,7 +10,7 @@ use crate::listing::find_all;
 use crate::plan::{RoomPlan, SearchedRoom};
 use crate::shown::{show_found, show_head, show_unfinished};
 use io_text::Text;
-use room_files::{BlockList, read_room};
+use room_files::{BlockList, Kinds, read_room};
 use room_spec::Spec;
 use run_search::{Progress, SearchFault};
 use std::alloc::{AllocError, Global};
@@ -41,11 +42,11 @@ fn write_room<P: Progress>(
     output: &mut Text,
     progress: &mut P,
 ) -> Result<bool, AllocError>
-    requires { (spec : RoomSpec) × (block_in block.now ≡ Ok (spec, length block.now)) }
-    ensures { IfOk result (λ well. (spec : RoomSpec) → block_in block.now ≡ Ok (spec, length block.now) →
+    requires { (spec : RoomSpec) × (block_of All block.now ≡ Ok (spec, length block.now)) }
+    ensures { IfOk result (λ well. (spec : RoomSpec) → block_of All block.now ≡ Ok (spec, length block.now) →
         (text : List ℕ) × IsRoomText plan.now spec well text × (output.new ≡ output.old ++ text)) }
 {
-    let Ok((spec, _)) = read_room(alloc, block)? else {
+    let Ok((spec, _)) = read_room(alloc, Kinds::All, block)? else {
         unreachable!() // it is a room's block
     };
     let room = SearchedRoom {
@@ -63,7 +64,7 @@ fn list<P: Progress>(
     output: &mut Text,
     progress: &mut P,
 ) -> Result<bool, AllocError>
-    requires { block_in room.now.block.now ≡ Ok (room.now.spec.now, length room.now.block.now) }
+    requires { block_of All room.now.block.now ≡ Ok (room.now.spec.now, length room.now.block.now) }
     ensures { IfOk result (λ well. (text : List ℕ) × IsRoomText room.now.plan.now room.now.spec.now well text × (output.new ≡ output.old ++ text)) }
 {
     leading_scripts(); // for the proof: the script of each outcome leads to it

@@ -6,7 +6,8 @@ use Rattle.std.specs.Option.{option_copied}
 use Rattle.std.proofs.lemmas.List.{take_min}
 use Rattle.std.proofs.lemmas.List.Elements.{All-cons, All-nil, All-tail}
 use Rattle.std.proofs.lemmas.List.Sorted.{All-permutation}
-use Rattle.room_spec.specs.Blocks.{block_in}
+use Rattle.room_files.specs.Kinds.{block_of}
+use Rattle.room_files.specs.declared.kinds.Kinds.TheVariants as kinds
 use Rattle.room_spec.specs.Rooms.{IsWithinLimits, RoomSpec}
 use Rattle.room_sample.specs.Groups.{grouped_if}
 use Rattle.room_sample.specs.Samples.{CameByFirst, Counted, IsSample}
@@ -49,7 +50,7 @@ if_found f P (Some x) one is holds = subst (λ (o : Option Counted). IfSome o P)
 
 -- ---- each script leads to its outcome
 
-module _ (spec : RoomSpec) (crashes : ℕ) (scripts : Bool) (block : List ℕ) (limits : IsWithinLimits spec) (says : block_in block ≡ Ok (spec, length block)) (asked : scripts ≡ true) where
+module _ (spec : RoomSpec) (crashes : ℕ) (scripts : Bool) (block : List ℕ) (limits : IsWithinLimits spec) (says : block_of kinds.All block ≡ Ok (spec, length block)) (asked : scripts ≡ true) where
   pub scripts_lead : (outcomes : List Counted) (shown : List Shown) → AreShown spec crashes scripts outcomes shown → All (HasScript spec.name block) shown
   scripts_lead [] [] are = All-nil (HasScript spec.name block)
   scripts_lead (one ∷ outcomes) (other ∷ shown) are =

@@ -6,10 +6,12 @@ use Rattle.serde_json.specs.Written.{has_float}
 use Rattle.json_lines.specs.Values.{entry_data, numbers_data}
 use Rattle.json_lines.proofs.CallerLemmas.{both, numbers_are}
 use Rattle.input_vectors.specs.Judged.{AddsVectors}
-use Rattle.input_vectors.specs.Vectors.{block_with, most_vectors, vector_count, vectors, with_inputs}
+use Rattle.input_vectors.specs.Vectors.{most_vectors, vector_count, vectors}
+use Rattle.run_blocks.specs.Blocks.{room_block}
 use Rattle.input_vectors.proofs.CallerLemmas.{all_judged, no_vectors}
-use Rattle.room_spec.specs.Blocks.{block_in}
-use Rattle.room_spec.specs.Rooms.{IsWithinLimits, RoomSpec, processes}
+use Rattle.room_files.specs.Kinds.{block_of}
+use Rattle.room_files.specs.declared.kinds.Kinds.TheVariants.{All}
+use Rattle.room_spec.specs.Rooms.{IsWithinLimits, RoomSpec, processes, with_inputs}
 use Rattle.room_sample.specs.Samples.{AreAmongAll, Counted, IsSample}
 use Rattle.room_sample.specs.Shown.{IsShownIf, Shown}
 use Rattle.room_sample.specs.declared.sampling.Plan.{Plan}
@@ -46,22 +48,22 @@ vectors_are name values kept count =
 -- what is known of the room with other inputs, the block that says it, and what was written of it
 abbrev Judged : Plan → List ℕ → List Counted → Option Shown → Bool → List ℕ → List ℕ → RoomSpec → List ℕ → Type 0
 Judged plan inputs outcomes broken kept before after spec block =
-    IsSample spec plan outcomes × AreAmongAll spec outcomes × IsShownIf spec plan.crashes (not plan.brief) (first_broken spec outcomes) broken × IsWithinLimits spec × (block_in block ≡ Ok (spec, length block))
+    IsSample spec plan outcomes × AreAmongAll spec outcomes × IsShownIf spec plan.crashes (not plan.brief) (first_broken spec outcomes) broken × IsWithinLimits spec × (block_of All block ≡ Ok (spec, length block))
     × (kept ≡ has_held spec outcomes) × (after ≡ before ++ vector_in plan spec block inputs outcomes broken)
 
-pub judged_vector : (plan : Plan) (spec with : RoomSpec) (block inputs other : List ℕ) (outcomes : List Counted) (broken : Option Shown) (kept : Bool) (before after : List ℕ) → with ≡ with_inputs spec inputs → other ≡ block_with block inputs
+pub judged_vector : (plan : Plan) (spec with : RoomSpec) (block inputs other : List ℕ) (outcomes : List Counted) (broken : Option Shown) (kept : Bool) (before after : List ℕ) → with ≡ with_inputs spec inputs → other ≡ room_block spec block inputs
     → Judged plan inputs outcomes broken kept before after with other → (text : List ℕ) × IsVectorText plan spec block inputs kept text × (after ≡ before ++ text)
 judged_vector plan spec with block inputs other outcomes broken kept before after room said judged =
     let own_room : Judged plan inputs outcomes broken kept before after (with_inputs spec inputs) other = subst (λ (r : RoomSpec). Judged plan inputs outcomes broken kept before after r other) room judged in
-    let own : Judged plan inputs outcomes broken kept before after (with_inputs spec inputs) (block_with block inputs) = subst (λ (b : List ℕ). Judged plan inputs outcomes broken kept before after (with_inputs spec inputs) b) said own_room in (
-      vector_in plan (with_inputs spec inputs) (block_with block inputs) inputs outcomes broken,
+    let own : Judged plan inputs outcomes broken kept before after (with_inputs spec inputs) (room_block spec block inputs) = subst (λ (b : List ℕ). Judged plan inputs outcomes broken kept before after (with_inputs spec inputs) b) said own_room in (
+      vector_in plan (with_inputs spec inputs) (room_block spec block inputs) inputs outcomes broken,
       record {
         outcomes = outcomes;
         sample = own.0;
         among = own.1;
         broken = broken;
         broken_is = own.2;
-        script = λ asked. script_leads (with_inputs spec inputs) plan.crashes (not plan.brief) (block_with block inputs) own.3 own.4 (ap not asked) (first_broken (with_inputs spec inputs) outcomes) broken own.2;
+        script = λ asked. script_leads (with_inputs spec inputs) plan.crashes (not plan.brief) (room_block spec block inputs) own.3 own.4 (ap not asked) (first_broken (with_inputs spec inputs) outcomes) broken own.2;
         kept_is = own.5;
         text_is = refl;
       },
@@ -93,6 +95,6 @@ judged_room plan values spec block kept count well before middle after counted f
     )
 
 -- the room that its block says, and no other
-pub said_room : (plan : Plan) (values : List ℕ) (spec : RoomSpec) (block : List ℕ) (well : Bool) (before after : List ℕ) → block_in block ≡ Ok (spec, length block) → (text : List ℕ) × IsJudgedText plan values spec block well text × (after ≡ before ++ text)
+pub said_room : (plan : Plan) (values : List ℕ) (spec : RoomSpec) (block : List ℕ) (well : Bool) (before after : List ℕ) → block_of All block ≡ Ok (spec, length block) → (text : List ℕ) × IsJudgedText plan values spec block well text × (after ≡ before ++ text)
     → (text : List ℕ) × IsInputsText plan values spec well text × (after ≡ before ++ text)
 said_room plan values spec block well before after says judged = (judged.0, record { block = block; says = says; judged = judged.1 }, judged.2)

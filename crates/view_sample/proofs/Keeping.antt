@@ -7,12 +7,13 @@ use Rattle.std.proofs.lemmas.Bool.{eq-eqb, eqb-true, ne_eqb}
 use Rattle.std.proofs.lemmas.List.{take_all, take_more}
 use Rattle.std.proofs.lemmas.List.FromFn.{get_or-map-range_with_len, length-map-range_with_len}
 use Rattle.std.proofs.lemmas.Option.{get_or_from_slice_get, slice_get-get_or}
-use Rattle.room_spec.specs.Rooms.{IsWithinLimits, RoomSpec, processes}
+use Rattle.room_spec.specs.Rooms.{IsWithinLimits, RoomSpec, is_reduction, processes}
 use Rattle.transcript.specs.declared.event.Event.{Event}
 use Rattle.transcript.specs.declared.event.Event.TheVariants.{Write, Snap, Decide}
 use Rattle.transcript.specs.Runs.{IsRun}
 use Rattle.transcript.specs.Tasks.{IsInTask, KeepsOwnTask, KeepsTask, decided_by, decided_in, different}
 use Rattle.transcript.proofs.CallerLemmas.{In, contains_in, few_different, in_any, in_different, input_is, no_more, one_more}
+use Rattle.room_core.specs.Agreements.{run_spec}
 use Rattle.room_core.specs.Calls.{RoomState}
 use Rattle.room_core.specs.Fields.{Fields}
 use Rattle.room_core.specs.Reading.{AreFieldsOf}
@@ -22,9 +23,9 @@ use Rattle.ws_history.specs.Sources.{history_of}
 use Rattle.ws_history.specs.contracts.states.ProcessStatePartialEq.TheImpl.{ghosts}
 use Rattle.ws_history.specs.declared.states.ProcessState.{ProcessState}
 use Rattle.ws_history.specs.declared.states.ProcessState.TheVariants.{Decided, Spent, Held, Going}
-use Rattle.ws_history.proofs.CallerLemmas.{decided_there, fields_run}
+use Rattle.ws_history.proofs.CallerLemmas.{decided_there, fields_run, low_of_run}
 use Rattle.view_sample.specs.Counts.{values_in}
-use Rattle.view_sample.specs.Tasks.{decides_input, keeps, keeps_task}
+use Rattle.view_sample.specs.Tasks.{decides_input, given_inputs, judged_room, keeps, keeps_task}
 
 -- ---- the values that are decided in states
 
@@ -227,22 +228,22 @@ module _ (spec : RoomSpec) (states : List ProcessState) (events : List Event) (s
       let all = few_different (decided_in events) (values states) (λ v at. in_values v states ((same v).1 at)) in
       omega (arith, many, once, few, all)
 
-  all_inputs : (some : List ProcessState) → list_all (decides_input spec) some ≡ true → (v : ℕ) → Decides v some → Contains spec.inputs v
+  all_inputs : (some : List ProcessState) → list_all (decides_input spec) some ≡ true → (v : ℕ) → Decides v some → Contains (given_inputs spec) v
   all_inputs [] are v at = absurd at
   all_inputs (state ∷ some) are v at = by (decides_input spec state) refl are at (all_inputs some)
     where
       by : (b : Bool) → decides_input spec state ≡ b → (b && list_all (decides_input spec) some) ≡ true → Decides v (state ∷ some)
-          → (list_all (decides_input spec) some ≡ true → (v : ℕ) → Decides v some → Contains spec.inputs v) → Contains spec.inputs v
-      by true here rest (inl e) later = input_is v spec.inputs (sym (ap (decides_input spec) e) ∙ here)
+          → (list_all (decides_input spec) some ≡ true → (v : ℕ) → Decides v some → Contains (given_inputs spec) v) → Contains (given_inputs spec) v
+      by true here rest (inl e) later = input_is v (given_inputs spec) (sym (ap (decides_input spec) e) ∙ here)
       by true here rest (inr more) later = later rest v more
       by false here rest at later = absurd cc
 
-  inputs_all : (some : List ProcessState) → ((v : ℕ) → Decides v some → Contains spec.inputs v) → list_all (decides_input spec) some ≡ true
+  inputs_all : (some : List ProcessState) → ((v : ℕ) → Decides v some → Contains (given_inputs spec) v) → list_all (decides_input spec) some ≡ true
   inputs_all [] are = refl
   inputs_all (state ∷ some) are = by state (λ v e. are v (inl e)) (inputs_all some (λ v at. are v (inr at)))
     where
-      by : (one : ProcessState) → ((v : ℕ) → one ≡ Decided v → Contains spec.inputs v) → list_all (decides_input spec) some ≡ true → (decides_input spec one && list_all (decides_input spec) some) ≡ true
-      by (Decided v) first rest = ap (λ (b : Bool). b && list_all (decides_input spec) some) (in_any v spec.inputs (contains_in v spec.inputs (first v refl))) ∙ rest
+      by : (one : ProcessState) → ((v : ℕ) → one ≡ Decided v → Contains (given_inputs spec) v) → list_all (decides_input spec) some ≡ true → (decides_input spec one && list_all (decides_input spec) some) ≡ true
+      by (Decided v) first rest = ap (λ (b : Bool). b && list_all (decides_input spec) some) (in_any v (given_inputs spec) (contains_in v (given_inputs spec) (first v refl))) ∙ rest
       by Spent first rest = rest
       by (Held i) first rest = rest
       by Going first rest = rest
@@ -251,14 +252,14 @@ module _ (spec : RoomSpec) (states : List ProcessState) (events : List Event) (s
   both_true true b is = (refl, is)
   both_true false b is = absurd cc
 
-  pub kept_by : (most : ℕ) → (keeps spec states most ≡ true) ↔ KeepsTask spec most events
+  pub kept_by : (most : ℕ) → (keeps spec states most ≡ true) ↔ KeepsTask (judged_room spec) most events
   kept_by most = (
     (λ is.
         let parts = both_true (nat_le (values_in states) most) (list_all (decides_input spec) states) is in
         let few : values_in states ≤ most = le_true parts.0 in
-        parts_task spec most events ((λ v at. all_inputs states parts.1 v ((same v).1 at)), omega (arith, few, counts))),
+        parts_task (judged_room spec) most events ((λ v at. all_inputs states parts.1 v ((same v).1 at)), omega (arith, few, counts))),
     (λ kept.
-        let parts = task_parts spec most events kept in
+        let parts = task_parts (judged_room spec) most events kept in
         let few = parts.1 in
         ap (λ (b : Bool). b && list_all (decides_input spec) states) (true_le (omega (arith, few, counts))) ∙ inputs_all states (λ v at. parts.0 v ((same v).0 at))),
   )
@@ -285,7 +286,7 @@ module _ (room : RoomState) (fields : Fields) (limits : IsWithinLimits room.spec
   abbrev history : List Event
   history = history_of room.spec fields
 
-  run : IsRun room.spec history
+  run : IsRun (run_spec room.spec fields) history
   run = fields_run room.spec fields (rooms_agree room fields limits are)
 
   long : length (states_of room.spec fields) ≡ processes room.spec
@@ -295,7 +296,7 @@ module _ (room : RoomState) (fields : Fields) (limits : IsWithinLimits room.spec
   state_at j below = get_or-map-range_with_len (state_of room.spec fields) 0 (processes room.spec) j j Going below (omega arith)
 
   process_of_decision : (j v : ℕ) → Contains history (Decide j v) → j < processes room.spec
-  process_of_decision j v at = (run at.0 (Decide j v) (slice_get-get_or history at.0 (Decide j v) at.1 ∙ ap Some at.2)).process
+  process_of_decision j v at = low_of_run room.spec fields j ((run at.0 (Decide j v) (slice_get-get_or history at.0 (Decide j v) at.1 ∙ ap Some at.2)).process)
 
   same_values : (v : ℕ) → (Decides v (states_of room.spec fields) → In v (decided_in history)) × (In v (decided_in history) → Decides v (states_of room.spec fields))
   same_values v = (
@@ -311,9 +312,14 @@ module _ (room : RoomState) (fields : Fields) (limits : IsWithinLimits room.spec
         at_decides v at.0 (states_of room.spec fields) (omega (arith, below, long)) (state_at at.0 below ∙ (decided_there room fields limits are at.0 v below).1 at.1)),
   )
 
-  by_task : (task : Option ℕ) → (option_map_or (keeps room.spec (states_of room.spec fields)) task true ≡ true) ↔ IfSome task (λ most. KeepsTask room.spec most history)
+  by_task : (task : Option ℕ) → (option_map_or (keeps room.spec (states_of room.spec fields)) task true ≡ true) ↔ IfSome task (λ most. KeepsTask (judged_room room.spec) most history)
   by_task None = ((λ is. tt), (λ is. refl))
   by_task (Some most) = kept_by room.spec (states_of room.spec fields) history same_values most
 
-  pub kept_task : (keeps_task room.spec (states_of room.spec fields) ≡ true) ↔ KeepsOwnTask room.spec history
+  pub kept_task : (keeps_task room.spec (states_of room.spec fields) ≡ true) ↔ KeepsOwnTask (judged_room room.spec) history
   kept_task = by_task room.spec.task
+
+  pub kept_ordinary : is_reduction room.spec ≡ false → (keeps_task room.spec (states_of room.spec fields) ≡ true) ↔ KeepsOwnTask room.spec history
+  kept_ordinary ordinary =
+      subst (λ (spec : RoomSpec). (keeps_task room.spec (states_of room.spec fields) ≡ true) ↔ KeepsOwnTask spec history)
+      (ap (λ (b : Bool). record room.spec { inputs = cond b room.spec.own room.spec.inputs }) ordinary) kept_task

@@ -8,7 +8,8 @@ use Rattle.std.specs.Str.{bytes_eq}
 use Rattle.std.proofs.lemmas.Bool.{ltb-true}
 use Rattle.std.proofs.lemmas.List.{append-nil, append_assoc}
 use Rattle.std.proofs.lemmas.Slice.Eq.{bytes_eq-Decides}
-use Rattle.room_spec.specs.Blocks.{block_in}
+use Rattle.room_files.specs.Kinds.{block_of}
+use Rattle.room_files.specs.declared.kinds.Kinds.TheVariants.{All}
 use Rattle.room_spec.specs.Names.{is_name}
 use Rattle.room_spec.specs.Rooms.{IsWithinLimits, RoomSpec}
 use Rattle.room_spec.specs.declared.fault.SpecFault.{SpecFault}
@@ -29,6 +30,7 @@ use Rattle.script_play.specs.Script.{Ask, Entry, Open, script_says}
 use Rattle.view_sample.specs.Leads.{LeadsTo, reply_to_stretch}
 use Rattle.room_sample.specs.Schedules.{IsOutcome, IsSchedule, MayCome, longest, room_after_stretch}
 use Rattle.room_files.specs.BlockLists.{whole_block}
+use Rattle.room_files.specs.declared.kinds.Kinds.{Kinds}
 use Rattle.view_sample.specs.Texts.{script_text, stretch_line}
 use Rattle.room_sample.specs.declared.stretch.Stretch.{Stretch}
 use Rattle.room_sample.specs.declared.stretch.Stretch.TheVariants.{Steps, Crash}
@@ -62,33 +64,33 @@ one_more command reply commands all granted are = record {
   no_want = ap₂ (λ (a b : Bool). a || b) granted are.no_want;
 }
 
-replied : (commands : List Command) (all : List Done) → AreDone (map Ask commands) all → list_any ran_out_of_memory all ≡ false → AreReplied commands all
-replied [] [] are none = record { commands_are = refl; all_are = refl; count = refl; no_want = refl }
-replied [] (done ∷ all) are none = absurd are
-replied (command ∷ commands) [] are none = absurd are
-replied (command ∷ commands) (Replied asked reply ∷ all) are none =
+replied : (kinds : Kinds) (commands : List Command) (all : List Done) → AreDone kinds (map Ask commands) all → list_any ran_out_of_memory all ≡ false → AreReplied commands all
+replied kinds [] [] are none = record { commands_are = refl; all_are = refl; count = refl; no_want = refl }
+replied kinds [] (done ∷ all) are none = absurd are
+replied kinds (command ∷ commands) [] are none = absurd are
+replied kinds (command ∷ commands) (Replied asked reply ∷ all) are none =
     let parts = one_false (is_want reply) (list_any ran_out_of_memory all) none in
-    subst (λ (c : Command). AreReplied (c ∷ commands) (Replied asked reply ∷ all)) are.0 (one_more asked reply commands all parts.0 (replied commands all are.1 parts.1))
-replied (command ∷ commands) (Faulty line fault ∷ all) are none = absurd are.0
-replied (command ∷ commands) (Unread line ∷ all) are none = absurd are.0
+    subst (λ (c : Command). AreReplied (c ∷ commands) (Replied asked reply ∷ all)) are.0 (one_more asked reply commands all parts.0 (replied kinds commands all are.1 parts.1))
+replied kinds (command ∷ commands) (Faulty line fault ∷ all) are none = absurd are.0
+replied kinds (command ∷ commands) (Unread line ∷ all) are none = absurd are.0
 
-same_read : (block : List ℕ) (one other : RoomSpec × ℕ) → block_in block ≡ Ok one → block_in block ≡ Ok other → one ≡ other
-same_read block one other is says = cc
+same_read : (kinds : Kinds) (block : List ℕ) (one other : RoomSpec × ℕ) → block_of kinds block ≡ Ok one → block_of kinds block ≡ Ok other → one ≡ other
+same_read kinds block one other is says = cc
 
-begun_by : (spec other : RoomSpec) (block : List ℕ) (len n : ℕ) → block_in block ≡ Ok (spec, n) → block_in block ≡ Ok (other, len) → other ≡ spec
-begun_by spec other block len n is says = sym (ap (λ (one : RoomSpec × ℕ). one.0) (same_read block (spec, n) (other, len) is says))
+begun_by : (kinds : Kinds) (spec other : RoomSpec) (block : List ℕ) (len n : ℕ) → block_of kinds block ≡ Ok (spec, n) → block_of kinds block ≡ Ok (other, len) → other ≡ spec
+begun_by kinds spec other block len n is says = sym (ap (λ (one : RoomSpec × ℕ). one.0) (same_read kinds block (spec, n) (other, len) is says))
 
-no_fault : (spec : RoomSpec) (block : List ℕ) (n : ℕ) (fault : SpecFault) → block_in block ≡ Ok (spec, n) → block_in block ≡ Err fault → ⊥
-no_fault spec block n fault is says = cc
+no_fault : (kinds : Kinds) (spec : RoomSpec) (block : List ℕ) (n : ℕ) (fault : SpecFault) → block_of kinds block ≡ Ok (spec, n) → block_of kinds block ≡ Err fault → ⊥
+no_fault kinds spec block n fault is says = cc
 
-opened : (spec : RoomSpec) (number n : ℕ) (block : List ℕ) (asked : List Command) (all : List Done) → block_in block ≡ Ok (spec, n) → AreDone (Open number block ∷ map Ask asked) all → list_any ran_out_of_memory all ≡ false → AreReplied (commands.Begin spec ∷ asked) all
-opened spec number n block asked [] is are none = absurd are
-opened spec number n block asked (Replied command reply ∷ all) is are none =
+opened : (kinds : Kinds) (spec : RoomSpec) (number n : ℕ) (block : List ℕ) (asked : List Command) (all : List Done) → block_of kinds block ≡ Ok (spec, n) → AreDone kinds (Open number block ∷ map Ask asked) all → list_any ran_out_of_memory all ≡ false → AreReplied (commands.Begin spec ∷ asked) all
+opened kinds spec number n block asked [] is are none = absurd are
+opened kinds spec number n block asked (Replied command reply ∷ all) is are none =
     let parts = one_false (is_want reply) (list_any ran_out_of_memory all) none in
-    let begun : command ≡ commands.Begin spec = are.0.3 ∙ ap commands.Begin (begun_by spec are.0.0 block are.0.1 n is are.0.2) in
-    subst (λ (c : Command). AreReplied (c ∷ asked) (Replied command reply ∷ all)) begun (one_more command reply asked all parts.0 (replied asked all are.1 parts.1))
-opened spec number n block asked (Faulty line fault ∷ all) is are none = absurd (no_fault spec block n fault is are.0.1)
-opened spec number n block asked (Unread line ∷ all) is are none = absurd cc
+    let begun : command ≡ commands.Begin spec = are.0.3 ∙ ap commands.Begin (begun_by kinds spec are.0.0 block are.0.1 n is are.0.2) in
+    subst (λ (c : Command). AreReplied (c ∷ asked) (Replied command reply ∷ all)) begun (one_more command reply asked all parts.0 (replied kinds asked all are.1 parts.1))
+opened kinds spec number n block asked (Faulty line fault ∷ all) is are none = absurd (no_fault kinds spec block n fault is are.0.1)
+opened kinds spec number n block asked (Unread line ∷ all) is are none = absurd cc
 
 -- ---- the replies to commands of one name
 
@@ -197,8 +199,8 @@ lines_are name (stretch ∷ schedule) =
 
 -- ---- the law
 
-pub leads : (spec : RoomSpec) (crashes : ℕ) (block : List ℕ) (schedule : List Stretch) (states : List ProcessState) → IsWithinLimits spec → block_in block ≡ Ok (spec, length block) → IsOutcome spec crashes schedule states
-    → LeadsTo spec.name schedule states (script_text spec.name block schedule)
+pub leads : (spec : RoomSpec) (crashes : ℕ) (block : List ℕ) (schedule : List Stretch) (states : List ProcessState) → IsWithinLimits spec → block_of All block ≡ Ok (spec, length block) → IsOutcome spec crashes schedule states
+    → LeadsTo block spec.name schedule states (script_text spec.name block schedule)
 leads spec crashes block schedule states limits says is =
     let name = spec.name in
     let whole = whole_says spec block says in
@@ -206,17 +208,17 @@ leads spec crashes block schedule states limits says is =
     let comes = replies_to_script spec crashes schedule states limits is in
     let script = script_text name block schedule in
     let read : script_says script ≡ Ok (Open 2 (whole_block block) ∷ map Ask asked) =
-    ap (λ (t : List ℕ). script_says (codes "open\n" ++ (whole_block block ++ t))) (lines_are name schedule) ∙ opened_read spec (whole_block block) asked whole (written_for spec (opening_state spec) schedule limits refl is.may_come) in
+    ap (λ (t : List ℕ). script_says (codes "open\n" ++ (whole_block block ++ t))) (lines_are name schedule) ∙ opened_read spec block (whole_block block) asked whole (written_for spec (opening_state spec) schedule limits refl is.may_come) in
     record {
       valid = subst (λ (r : Result (List Entry) FaultAt). IsOk r) (sym read) refl;
       report = comes.report;
       states_are = comes.states_are;
-      played = λ outcome output play.
+      played = λ kinds outcome output read_by play.
           let text = play.2 in
           let all = text.all in
           let end = fine (list_any ran_out_of_memory all) (list_any is_refused all) outcome text.ending_is in
           let entries : play.0 ≡ Open 2 (whole_block block) ∷ map Ask asked = same_entries _ _ (sym play.1 ∙ read) in
-          let did = opened spec 2 (length (whole_block block)) (whole_block block) asked all whole.says (subst (λ (e : List Entry). AreDone e all) entries text.each_entry) end.0 in
+          let did = opened kinds spec 2 (length (whole_block block)) (whole_block block) asked all (whole.says kinds read_by) (subst (λ (e : List Entry). AreDone kinds e all) entries text.each_entry) end.0 in
           let ours = own name (commands.Begin spec ∷ asked) (replies_in all) did.count (refl, named_for name schedule) did.no_want in
           let alone = subst (λ (c : List Command). without_wants (replies_of name c (replies_in all)) ≡ replies_from None (part name (granted c (replies_in all)))) did.commands_are (text.replies.alone name) in
           let replies_are : replies_in all ≡ replies.Begun ∷ replies_for schedule comes.report = sym ours.0 ∙ alone ∙ ap (replies_from None) ours.1 ∙ comes.replies_are in

@@ -1,3 +1,4 @@
+mod OwnInputs
 mod Alike
 mod Answering
 mod Breaking

@@ -3,7 +3,8 @@ use Rattle.std.proofs.Common.{◌≡◌, ◌∙◌, ℕ, ◌+◌, ◌≤◌, ◌
 use Rattle.std.specs.List.{concat}
 use Rattle.std.proofs.lemmas.List.{append-nil, append_assoc, take_all}
 use Rattle.std.proofs.lemmas.List.Folds.{concat-append}
-use Rattle.room_spec.specs.Blocks.{block_in}
+use Rattle.room_files.specs.Kinds.{block_of}
+use Rattle.room_files.specs.declared.kinds.Kinds.TheVariants.{All}
 use Rattle.room_spec.specs.Rooms.{RoomSpec}
 use Rattle.room_files.specs.BlockLists.{IsBlockAt}
 use Rattle.room_files.specs.Blocks.{Setup}
@@ -26,7 +27,7 @@ module _ (IsText : RoomSpec → Bool → List ℕ → Type 0) where
   no_rooms before = record { texts = []; each_room = refl; after_is = sym (append-nil before) }
 
   pub one_room_more : (specs : List RoomSpec) (i : ℕ) (block : List ℕ) (well one : Bool) (before so_far after : List ℕ) → IsBlockAt specs i block → AddsRooms IsText (take i specs) well before so_far
-      → ((spec : RoomSpec) → block_in block ≡ Ok (spec, length block) → (text : List ℕ) × IsText spec one text × (after ≡ so_far ++ text)) → AddsRooms IsText (take (i + 1) specs) (well && one) before after
+      → ((spec : RoomSpec) → block_of All block ≡ Ok (spec, length block) → (text : List ℕ) × IsText spec one text × (after ≡ so_far ++ text)) → AddsRooms IsText (take (i + 1) specs) (well && one) before after
   one_room_more specs i block well one before so_far after at adds more =
       let said = more at.room at.says in
       let text = said.0 in

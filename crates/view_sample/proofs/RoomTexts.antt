@@ -5,7 +5,8 @@ use Rattle.std.specs.Option.{option_copied}
 use Rattle.std.specs.List.{concat}
 use Rattle.std.proofs.lemmas.List.{append-nil, append_assoc, length-take, take-take, take_all}
 use Rattle.std.proofs.lemmas.List.Folds.{concat-append}
-use Rattle.room_spec.specs.Blocks.{block_in}
+use Rattle.room_files.specs.Kinds.{block_of}
+use Rattle.room_files.specs.declared.kinds.Kinds.TheVariants.{All}
 use Rattle.room_spec.specs.Rooms.{IsWithinLimits, RoomSpec}
 use Rattle.room_files.specs.BlockLists.{IsBlockAt}
 use Rattle.view_sample.specs.Rooms.{AddsCut, AddsFirst, AddsSamples, AreSampleTexts, IsChosen, IsListed, IsSampleText, IsReported, ListsFewer, ShowsNoMore, alone_shown, cut_plan, end_text, shown_text, shows_alone, shows_breaking}
@@ -38,7 +39,7 @@ pub no_samples : (plan : Plan) (before : List ℕ) → AddsSamples plan [] true 
 no_samples plan before = record { texts = []; each_room = refl; after_is = sym (append-nil before) }
 
 pub one_sample_more : (plan : Plan) (specs : List RoomSpec) (i : ℕ) (block : List ℕ) (well one : Bool) (before so_far after : List ℕ) → IsBlockAt specs i block → AddsSamples plan (take i specs) well before so_far
-    → ((spec : RoomSpec) → block_in block ≡ Ok (spec, length block) → (text : List ℕ) × IsSampleText plan spec one text × (after ≡ so_far ++ text)) → AddsSamples plan (take (i + 1) specs) (well && one) before after
+    → ((spec : RoomSpec) → block_of All block ≡ Ok (spec, length block) → (text : List ℕ) × IsSampleText plan spec one text × (after ≡ so_far ++ text)) → AddsSamples plan (take (i + 1) specs) (well && one) before after
 one_sample_more plan specs i block well one before so_far after at adds more =
     let said = more at.room at.says in
     let text = said.0 in
@@ -54,22 +55,22 @@ one_sample_more plan specs i block well one before so_far after at adds more =
 pub all_samples : (plan : Plan) (specs : List RoomSpec) (i : ℕ) (well : Bool) (before after : List ℕ) → length specs ≤ i → AddsSamples plan (take i specs) well before after → AddsSamples plan specs well before after
 all_samples plan specs i well before after past adds = subst (λ (rooms : List RoomSpec). AddsSamples plan rooms well before after) (take_all i specs (omega (arith, past))) adds
 
-same_read : (block : List ℕ) (one other : RoomSpec × ℕ) → block_in block ≡ Ok one → block_in block ≡ Ok other → one ≡ other
+same_read : (block : List ℕ) (one other : RoomSpec × ℕ) → block_of All block ≡ Ok one → block_of All block ≡ Ok other → one ≡ other
 same_read block one other read says = cc
 
 -- the room that a block says is no other
-pub own_room : (block : List ℕ) (spec : RoomSpec) (len : ℕ) → block_in block ≡ Ok (spec, len) → (said : RoomSpec) × (block_in block ≡ Ok (said, length block)) → block_in block ≡ Ok (spec, length block)
+pub own_room : (block : List ℕ) (spec : RoomSpec) (len : ℕ) → block_of All block ≡ Ok (spec, len) → (said : RoomSpec) × (block_of All block ≡ Ok (said, length block)) → block_of All block ≡ Ok (spec, length block)
 own_room block spec len read says =
-    subst (λ (room : RoomSpec). block_in block ≡ Ok (room, length block)) (ap (λ (one : RoomSpec × ℕ). one.0) (same_read block (says.0, length block) (spec, len) says.1 read)) says.1
+    subst (λ (room : RoomSpec). block_of All block ≡ Ok (room, length block)) (ap (λ (one : RoomSpec × ℕ). one.0) (same_read block (says.0, length block) (spec, len) says.1 read)) says.1
 
-pub of_said : (P : RoomSpec → Type 0) (block : List ℕ) (spec said : RoomSpec) → block_in block ≡ Ok (spec, length block) → block_in block ≡ Ok (said, length block) → P spec → P said
+pub of_said : (P : RoomSpec → Type 0) (block : List ℕ) (spec said : RoomSpec) → block_of All block ≡ Ok (spec, length block) → block_of All block ≡ Ok (said, length block) → P spec → P said
 of_said P block spec said own says is =
     subst P (ap (λ (one : RoomSpec × ℕ). one.0) (same_read block (spec, length block) (said, length block) own says)) is
 
 -- ---- what is reported of a room
 
 -- these outcomes, of which some are shown
-module _ (plan : Plan) (top : Option ℕ) (spec : RoomSpec) (block : List ℕ) (limits : IsWithinLimits spec) (own : block_in block ≡ Ok (spec, length block)) where
+module _ (plan : Plan) (top : Option ℕ) (spec : RoomSpec) (block : List ℕ) (limits : IsWithinLimits spec) (own : block_of All block ≡ Ok (spec, length block)) where
   not_false : (b : Bool) → b ≡ false → not b ≡ true
   not_false b is = ap not is
 
@@ -98,7 +99,7 @@ module _ (plan : Plan) (top : Option ℕ) (spec : RoomSpec) (block : List ℕ) (
     text_is = text_is ∙ ap₂ (λ (a b : List ℕ). a ++ b) (same_shown plan.json ordered shown) (same_end plan.json outcomes broken);
   }
 
-pub chosen : (number : ℕ) (plan : Plan) (spec : RoomSpec) (block : List ℕ) (outcomes ordered : List Counted) (shown : Option Shown) (well : Bool) (before after text : List ℕ) → IsWithinLimits spec → block_in block ≡ Ok (spec, length block) → IsPermutation outcomes ordered
+pub chosen : (number : ℕ) (plan : Plan) (spec : RoomSpec) (block : List ℕ) (outcomes ordered : List Counted) (shown : Option Shown) (well : Bool) (before after text : List ℕ) → IsWithinLimits spec → block_of All block ≡ Ok (spec, length block) → IsPermutation outcomes ordered
     → AreMostFirst plan.from ordered → IsShownIf spec plan.crashes (shows_alone plan) (slice_get ordered (number - 1)) shown → well ≡ is_some (slice_get ordered (number - 1)) → text ≡ alone_shown plan.json plan spec.name block (length ordered) number shown
     → after ≡ before ++ text → (text : List ℕ) × IsChosen number plan spec block outcomes well text × (after ≡ before ++ text)
 chosen number plan spec block outcomes ordered shown well before after text limits own permuted first is well_is text_is after_is = (
@@ -128,7 +129,7 @@ alone_reported json plan name block count total number lent one start text start
     text_is ∙ ap₂ (λ (s : List ℕ) (o : Option Shown). s ++ alone_shown json plan name block count number o) start_is (lent_shown lent one lent_is) ∙ ap (λ (n : ℕ). alone_shown json plan name block n number (option_map shown_of one)) count_is
 
 -- the outcomes that are reported are those of a sample
-pub sample_reported : (alone : Option ℕ) (plan : Plan) (spec : RoomSpec) (block : List ℕ) (outcomes reported : List Counted) (well : Bool) (text : List ℕ) → block_in block ≡ Ok (spec, length block) → IsSample spec plan outcomes → AreAmongAll spec outcomes
+pub sample_reported : (alone : Option ℕ) (plan : Plan) (spec : RoomSpec) (block : List ℕ) (outcomes reported : List Counted) (well : Bool) (text : List ℕ) → block_of All block ≡ Ok (spec, length block) → IsSample spec plan outcomes → AreAmongAll spec outcomes
     → reported ≡ grouped_if plan.group outcomes → plan.outcome ≡ alone → IsReported alone plan spec block reported well text → IsSampleText plan spec well text
 sample_reported alone plan spec block outcomes reported well text own sample among reported_is alone_is is = record {
   block = block;
@@ -178,7 +179,7 @@ first_of [] (suc n) = refl
 first_of (one ∷ examples) (suc n) = ap (λ (shown : List Shown). shown_of one ∷ shown) (first_of examples n)
 
 -- some of the outcomes were shown, or none
-pub fewer_listed : (plan : Plan) (spec : RoomSpec) (block : List ℕ) (outcomes ordered : List Counted) (examples : List Example) (broken : Option Shown) (well : Bool) (end before after : List ℕ) → IsWithinLimits spec → block_in block ≡ Ok (spec, length block)
+pub fewer_listed : (plan : Plan) (spec : RoomSpec) (block : List ℕ) (outcomes ordered : List Counted) (examples : List Example) (broken : Option Shown) (well : Bool) (end before after : List ℕ) → IsWithinLimits spec → block_of All block ≡ Ok (spec, length block)
     → IsPermutation outcomes ordered → AreMostFirst plan.from ordered → AreShown spec plan.crashes (not plan.brief) (take (length examples) ordered) (map shown_of examples) → length examples ≤ shown_count plan.top (length ordered)
     → IsShownIf spec plan.crashes (shows_breaking plan) (first_broken spec outcomes) broken → well ≡ has_held spec outcomes → end ≡ end_text plan.json plan spec block outcomes broken
     → (after ≡ before) ⊎ ((most : ℕ) × (most ≤ length examples) × (after ≡ before ++ (shown_text plan.json plan spec.name block ordered (map shown_of (take most examples)) ++ end))) → ListsFewer plan spec block outcomes before after
@@ -199,7 +200,7 @@ fewer_listed plan spec block outcomes ordered examples broken well end before af
     )
 
 -- as many as were made, which are fewer than were asked for
-pub made_listed : (plan : Plan) (spec : RoomSpec) (block : List ℕ) (outcomes ordered : List Counted) (examples : List Example) (broken : Option Shown) (well : Bool) (end before after : List ℕ) → IsWithinLimits spec → block_in block ≡ Ok (spec, length block)
+pub made_listed : (plan : Plan) (spec : RoomSpec) (block : List ℕ) (outcomes ordered : List Counted) (examples : List Example) (broken : Option Shown) (well : Bool) (end before after : List ℕ) → IsWithinLimits spec → block_of All block ≡ Ok (spec, length block)
     → IsPermutation outcomes ordered → AreMostFirst plan.from ordered → AreShown spec plan.crashes (not plan.brief) (take (length examples) ordered) (map shown_of examples) → length examples ≤ shown_count plan.top (length ordered)
     → IsShownIf spec plan.crashes (shows_breaking plan) (first_broken spec outcomes) broken → well ≡ has_held spec outcomes → end ≡ end_text plan.json plan spec block outcomes broken
     → after ≡ before ++ (shown_text plan.json plan spec.name block ordered (map shown_of examples) ++ end) → ListsFewer plan spec block outcomes before after
@@ -216,7 +217,7 @@ made_listed plan spec block outcomes ordered examples broken well end before aft
     )
 
 -- all that were asked for
-pub whole_listed : (plan : Plan) (spec : RoomSpec) (block : List ℕ) (outcomes ordered : List Counted) (examples : List Example) (broken : Option Shown) (well : Bool) (end before after : List ℕ) → IsWithinLimits spec → block_in block ≡ Ok (spec, length block)
+pub whole_listed : (plan : Plan) (spec : RoomSpec) (block : List ℕ) (outcomes ordered : List Counted) (examples : List Example) (broken : Option Shown) (well : Bool) (end before after : List ℕ) → IsWithinLimits spec → block_of All block ≡ Ok (spec, length block)
     → IsPermutation outcomes ordered → AreMostFirst plan.from ordered → AreShown spec plan.crashes (not plan.brief) (take (length examples) ordered) (map shown_of examples) → length examples ≡ shown_count plan.top (length ordered)
     → IsShownIf spec plan.crashes (shows_breaking plan) (first_broken spec outcomes) broken → well ≡ has_held spec outcomes → end ≡ end_text plan.json plan spec block outcomes broken
     → after ≡ before ++ (shown_text plan.json plan spec.name block ordered (map shown_of examples) ++ end) → (text : List ℕ) × IsListed plan spec block outcomes well text × (after ≡ before ++ text)
@@ -229,7 +230,7 @@ whole_listed plan spec block outcomes ordered examples broken well end before af
     )
 
 -- and so the sample was written in part
-pub fewer_reported : (plan : Plan) (spec : RoomSpec) (block : List ℕ) (outcomes reported : List Counted) (before after : List ℕ) → block_in block ≡ Ok (spec, length block) → IsSample spec plan outcomes → AreAmongAll spec outcomes
+pub fewer_reported : (plan : Plan) (spec : RoomSpec) (block : List ℕ) (outcomes reported : List Counted) (before after : List ℕ) → block_of All block ≡ Ok (spec, length block) → IsSample spec plan outcomes → AreAmongAll spec outcomes
     → reported ≡ grouped_if plan.group outcomes → plan.outcome ≡ None → ListsFewer plan spec block reported before after → AddsCut plan spec before after
 fewer_reported plan spec block outcomes reported before after own sample among reported_is alone_is (inl same) = inl same
 fewer_reported plan spec block outcomes reported before after own sample among reported_is alone_is (inr (top, well, text, shows, is, after_is)) =
@@ -266,6 +267,6 @@ all_run plan spec schedules well before after all is =
 
 -- the rooms before this one, and what there was memory for of this one
 pub cut_here : (plan : Plan) (specs : List RoomSpec) (i : ℕ) (block : List ℕ) (well : Bool) (before so_far after : List ℕ) → IsBlockAt specs i block → AddsSamples plan (take i specs) well before so_far
-    → ((spec : RoomSpec) → block_in block ≡ Ok (spec, length block) → AddsCut plan spec so_far after) → AddsFirst plan specs before after
+    → ((spec : RoomSpec) → block_of All block ≡ Ok (spec, length block) → AddsCut plan spec so_far after) → AddsFirst plan specs before after
 cut_here plan specs i block well before so_far after at adds rest =
     record { count = i; next = at.room; there = at.there; well = well; reported = so_far; first = adds; rest = rest at.room at.says }

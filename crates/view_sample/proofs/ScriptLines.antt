@@ -120,10 +120,10 @@ all_read (command ∷ commands) written (suc most) number text is within =
 
 -- ---- a script that opens one room
 
-pub opened_read : (spec : RoomSpec) (whole : List ℕ) (commands : List Command) → IsWhole spec whole → AllByRecursion IsWritten commands
+pub opened_read : (spec : RoomSpec) (block whole : List ℕ) (commands : List Command) → IsWhole spec block whole → AllByRecursion IsWritten commands
     → script_says (codes "open\n" ++ (whole ++ lines_for commands)) ≡ Ok (Open 2 whole ∷ map Ask commands)
 unfolding script_from
-opened_read spec whole commands is written =
+opened_read spec block whole commands is written =
     let rest = lines_for commands in
     let text = whole ++ rest in
     let most = length (codes "pen\n" ++ text) in

@@ -1,23 +1,29 @@
 -- A block that ends with its line end, at the front of a text.
 use Rattle.std.proofs.Common.{◌≡◌, ◌∙◌, ℕ, ◌+◌, ◌-◌, ◌≤◌, Bool, true, false, cond, eqb, ◌&&◌, min, List, [], ◌∷◌, ◌++◌, length, take, drop, Option, Some, None, Result, Ok, Err, refl, sym, ap, ap₂, subst, arith}
-use Rattle.std.specs.Prelude.{codes, nat_eq}
+use Rattle.std.specs.Prelude.{IsOk, codes, nat_eq}
+use Rattle.std.specs.Str.{bytes_eq}
 use Rattle.std.specs.List.{ends_with}
 use Rattle.std.specs.Option.{option_map}
 use Rattle.std.proofs.lemmas.List.{append_assoc, length-append, take_at}
 use Rattle.std.proofs.Math.Seq.{drop-append_seam}
 use Rattle.protocol_lang.specs.Results.{◌>>=◌}
-use Rattle.room_spec.specs.Blocks.{block_in, body_len, room_before, room_in}
-use Rattle.room_spec.specs.Grammar.{text_of}
+use Rattle.room_spec.specs.Blocks.{before_end, body_len}
+use Rattle.room_spec.specs.Grammar.{are_before_end, text_of}
+use Rattle.room_spec.specs.Texts.{first_line}
 use Rattle.room_spec.specs.Rooms.{RoomSpec}
 use Rattle.room_spec.specs.declared.fault.SpecFault.{SpecFault}
 use Rattle.room_spec.proofs.CallerLemmas.{end_at, end_found, with_line_end}
+use Rattle.room_files.specs.Kinds.{block_of, reads_reduction, room_in_lines}
+use Rattle.room_files.specs.declared.kinds.Kinds.{Kinds}
+use Rattle.room_files.specs.declared.kinds.Kinds.TheVariants.{Ordinary, All}
+use Rattle.room_files.proofs.CallerLemmas.{all_read, first_of, first_of_end}
 use Rattle.room_files.specs.Blocks.{block_extent, or_all}
 use Rattle.room_files.specs.BlockLists.{whole_block}
 
--- the text begins with the block and its line end, whatever follows, and says its room
-pub record IsWhole (spec : RoomSpec) (whole : List ℕ) : Type 0 where
+-- the text begins with the block and its line end, whatever follows, and says its room, where that block is read
+pub record IsWhole (spec : RoomSpec) (block whole : List ℕ) : Type 0 where
   pub extent : (rest : List ℕ) → block_extent (whole ++ rest) ≡ length whole
-  pub says : block_in whole ≡ Ok (spec, length whole)
+  pub says : (kinds : Kinds) → IsOk (block_of kinds block) → block_of kinds whole ≡ Ok (spec, length whole)
 
 -- ---- the line `end` with a line end
 
@@ -40,16 +46,16 @@ said (Ok room) spec len n is =
 said (Err fault) spec len n is = absurd cc
 
 -- what a block says, by the bytes before its line `end`
-pub record Says (spec : RoomSpec) (block : List ℕ) : Type 0 where
+pub record Says (reader : List ℕ → Result RoomSpec SpecFault) (spec : RoomSpec) (block : List ℕ) : Type 0 where
   pub body : ℕ
   pub found : body_len block ≡ Some body
-  pub room : room_in (take body block) ≡ Ok spec
+  pub room : reader (take body block) ≡ Ok spec
   pub long : min (body + 4) (length block) ≡ length block
 
-body_says : (spec : RoomSpec) (block : List ℕ) (body : Option ℕ) → body_len block ≡ body → room_before block body ≡ Ok (spec, length block) → Says spec block
-body_says spec block None found is = absurd cc
-body_says spec block (Some body) found is =
-    let parts = said (room_in (take body block)) spec (min (body + 4) (length block)) (length block) is in
+body_says : (reader : List ℕ → Result RoomSpec SpecFault) (spec : RoomSpec) (block : List ℕ) (body : Option ℕ) → body_len block ≡ body → before_end reader block body ≡ Ok (spec, length block) → Says reader spec block
+body_says reader spec block None found is = absurd cc
+body_says reader spec block (Some body) found is =
+    let parts = said (reader (take body block)) spec (min (body + 4) (length block)) (length block) is in
     record { body = body; found = found; room = parts.0; long = parts.1 }
 
 -- ---- the last byte
@@ -79,29 +85,74 @@ whole_of lines (Some (byte ∷ bytes)) block is short = absurd (omega (arith, sh
 
 -- ---- a block
 
-pub whole_says : (spec : RoomSpec) (block : List ℕ) → block_in block ≡ Ok (spec, length block) → IsWhole spec (whole_block block)
-whole_says spec block is =
-    let says = body_says spec block (body_len block) refl is in
-    let end = end_found block says.body says.found in
+-- a block that is read says the same whatever other kinds are read
+kind_reads : (kinds : Kinds) (block : List ℕ) (read : RoomSpec × ℕ) → block_of All block ≡ Ok read → IsOk (block_of kinds block) → block_of kinds block ≡ Ok read
+kind_reads kinds block read says is = by (block_of kinds block) refl is
+  where
+    by : (found : Result (RoomSpec × ℕ) SpecFault) → block_of kinds block ≡ found → IsOk found → block_of kinds block ≡ Ok read
+    by (Ok other) found is = found ∙ sym (all_read kinds block other found) ∙ says
+    by (Err fault) found is = absurd cc
+
+-- its lines before the line `end`, and the block with a line end
+record Parts (block : List ℕ) (body : ℕ) : Type 0 where
+  lines : List (List ℕ)
+  no_end : are_before_end lines ≡ true
+  before : take body block ≡ text_of lines
+  whole : whole_block block ≡ ended lines
+  first : first_line (ended lines) ≡ first_line block
+
+parts_of : (block : List ℕ) (body : ℕ) → body_len block ≡ Some body → min (body + 4) (length block) ≡ length block → Parts block body
+parts_of block body found long =
+    let end = end_found block body found in
     let lines = end.lines in
-    let body_is : says.body ≡ length (text_of lines) = end.extent in
-    let long = ap length end.parts in
+    let all = ap length end.parts in
     let short : length (with_line_end end.later) ≤ 1 =
-    omega (arith, says.long, body_is, long, length-append (text_of lines) (codes "end" ++ with_line_end end.later), length-append (codes "end") (with_line_end end.later)) in
-    let whole : whole_block block ≡ ended lines = whole_of lines end.later block end.parts short in
-    let before : take says.body block ≡ text_of lines = ap₂ (λ (n : ℕ) (t : List ℕ). take n t) body_is end.parts ∙ take_at (text_of lines) (codes "end" ++ with_line_end end.later) (length (text_of lines)) refl in
+    omega (arith, long, end.extent, all, length-append (text_of lines) (codes "end" ++ with_line_end end.later), length-append (codes "end") (with_line_end end.later)) in
+    record {
+      lines = lines;
+      no_end = end.no_end;
+      before = ap₂ (λ (n : ℕ) (t : List ℕ). take n t) end.extent end.parts ∙ take_at (text_of lines) (codes "end" ++ with_line_end end.later) (length (text_of lines)) refl;
+      whole = whole_of lines end.later block end.parts short;
+      first = by lines end.later end.no_end ∙ sym (ap first_line end.parts);
+    }
+  where
+    by : (lines : List (List ℕ)) (later : Option (List ℕ)) → are_before_end lines ≡ true → first_line (ended lines) ≡ first_line (text_of lines ++ (codes "end" ++ with_line_end later))
+    by [] later all = first_of_end (Some []) ∙ sym (first_of_end later)
+    by (line ∷ lines) later all = first_of line lines (codes "end" ++ 10 ∷ []) all ∙ sym (first_of line lines (codes "end" ++ with_line_end later) all)
+
+ended_says : (reader : List ℕ → Result RoomSpec SpecFault) (spec : RoomSpec) (lines : List (List ℕ)) → are_before_end lines ≡ true → reader (text_of lines) ≡ Ok spec → before_end reader (ended lines) (body_len (ended lines)) ≡ Ok (spec, length (ended lines))
+ended_says reader spec lines no_end room =
     let count : length (ended lines) ≡ length (text_of lines) + 4 = length-append (text_of lines) (codes "end" ++ 10 ∷ []) in
-    subst (IsWhole spec) (sym whole) (record {
-      extent = λ rest.
-          let found : body_len (ended lines ++ rest) ≡ Some (length (text_of lines)) = ap body_len (ended_on lines rest) ∙ end_at lines (Some rest) end.no_end in
+    let found : body_len (ended lines) ≡ Some (length (text_of lines)) = end_at lines (Some []) no_end in
+    let front : take (length (text_of lines)) (ended lines) ≡ text_of lines = take_at (text_of lines) (codes "end" ++ 10 ∷ []) (length (text_of lines)) refl in
+    let len : min (length (text_of lines) + 4) (length (ended lines)) ≡ length (ended lines) = omega (arith, count) in
+    ap (before_end reader (ended lines)) found
+    ∙ ap₂ (λ (t : List ℕ) (n : ℕ). reader t >>= in_bytes n) front len
+    ∙ ap (λ (read : Result RoomSpec SpecFault). read >>= in_bytes (length (ended lines))) room
+
+same_reading : (kinds : Kinds) (one other : List ℕ) → first_line one ≡ first_line other → reads_reduction kinds one ≡ reads_reduction kinds other
+same_reading Ordinary one other same = refl
+same_reading All one other same = ap (λ (line : List ℕ). bytes_eq line (codes "reduction 1")) same
+
+kind_says : (kinds : Kinds) (spec : RoomSpec) (block : List ℕ) → block_of kinds block ≡ Ok (spec, length block) → block_of kinds (whole_block block) ≡ Ok (spec, length (whole_block block))
+kind_says kinds spec block is =
+    let reader = room_in_lines (reads_reduction kinds block) in
+    let says = body_says reader spec block (body_len block) refl is in
+    let parts = parts_of block says.body says.found says.long in
+    subst (λ (t : List ℕ). block_of kinds t ≡ Ok (spec, length t)) (sym parts.whole)
+    (subst (λ (b : Bool). before_end (room_in_lines b) (ended parts.lines) (body_len (ended parts.lines)) ≡ Ok (spec, length (ended parts.lines))) (sym (same_reading kinds (ended parts.lines) block parts.first))
+    (ended_says reader spec parts.lines parts.no_end (sym (ap reader parts.before) ∙ says.room)))
+
+pub whole_says : (spec : RoomSpec) (block : List ℕ) → block_of All block ≡ Ok (spec, length block) → IsWhole spec block (whole_block block)
+whole_says spec block is =
+    let says = body_says (room_in_lines (reads_reduction All block)) spec block (body_len block) refl is in
+    let parts = parts_of block says.body says.found says.long in
+    let lines = parts.lines in
+    let count : length (ended lines) ≡ length (text_of lines) + 4 = length-append (text_of lines) (codes "end" ++ 10 ∷ []) in
+    record {
+      extent = λ rest. subst (λ (t : List ℕ). block_extent (t ++ rest) ≡ length t) (sym parts.whole)
+          (let found : body_len (ended lines ++ rest) ≡ Some (length (text_of lines)) = ap body_len (ended_on lines rest) ∙ end_at lines (Some rest) parts.no_end in
           ap (λ (b : Option ℕ). or_all (ended lines ++ rest) (option_map (λ n. min (n + 4) (length (ended lines ++ rest))) b)) found
-          ∙ omega (arith, count, length-append (ended lines) rest);
-      says =
-          let found : body_len (ended lines) ≡ Some (length (text_of lines)) = end_at lines (Some []) end.no_end in
-          let front : take (length (text_of lines)) (ended lines) ≡ text_of lines = take_at (text_of lines) (codes "end" ++ 10 ∷ []) (length (text_of lines)) refl in
-          let room : room_in (text_of lines) ≡ Ok spec = sym (ap room_in before) ∙ says.room in
-          let len : min (length (text_of lines) + 4) (length (ended lines)) ≡ length (ended lines) = omega (arith, count) in
-          ap (room_before (ended lines)) found
-          ∙ ap₂ (λ (t : List ℕ) (n : ℕ). room_in t >>= in_bytes n) front len
-          ∙ ap (λ (read : Result RoomSpec SpecFault). read >>= in_bytes (length (ended lines))) room;
-    })
+          ∙ omega (arith, count, length-append (ended lines) rest));
+      says = λ kinds read. kind_says kinds spec block (kind_reads kinds block (spec, length block) is read);
+    }

@@ -6,9 +6,11 @@ use Rattle.json_lines.specs.Lines.{json_line}
 use Rattle.json_lines.specs.Values.{entry_data, numbers_data}
 use Rattle.input_vectors.specs.Judged.{AreVectorTexts}
 use Rattle.input_vectors.specs.Lines.{too_many_line, vector_words, vectors_line}
-use Rattle.input_vectors.specs.Vectors.{block_with, most_vectors, vector_count, vectors, with_inputs}
-use Rattle.room_spec.specs.Blocks.{block_in}
-use Rattle.room_spec.specs.Rooms.{RoomSpec, processes}
+use Rattle.input_vectors.specs.Vectors.{most_vectors, vector_count, vectors}
+use Rattle.run_blocks.specs.Blocks.{room_block}
+use Rattle.room_files.specs.Kinds.{block_of}
+use Rattle.room_files.specs.declared.kinds.Kinds.TheVariants.{All}
+use Rattle.room_spec.specs.Rooms.{RoomSpec, processes, with_inputs}
 use Rattle.room_files.specs.Inputs.{all_blocks}
 use Rattle.room_files.specs.declared.outcome.Outcome.{Outcome}
 use Rattle.room_sample.specs.Samples.{AreAmongAll, Counted, IsSample}
@@ -46,9 +48,9 @@ pub record IsVectorText (plan : Plan) (spec : RoomSpec) (block : List ℕ) (inpu
   pub broken : Option Shown
   pub broken_is : IsShownIf (with_inputs spec inputs) plan.crashes (not plan.brief) (first_broken (with_inputs spec inputs) outcomes) broken
   -- the script leads to the outcome that breaks it
-  pub script : plan.brief ≡ false → IfSome broken (HasScript spec.name (block_with block inputs))
+  pub script : plan.brief ≡ false → IfSome broken (HasScript spec.name (room_block spec block inputs))
   pub kept_is : kept ≡ has_held (with_inputs spec inputs) outcomes
-  pub text_is : text ≡ vector_in plan (with_inputs spec inputs) (block_with block inputs) inputs outcomes broken
+  pub text_is : text ≡ vector_in plan (with_inputs spec inputs) (room_block spec block inputs) inputs outcomes broken
 
 -- ---- a room
 
@@ -95,9 +97,9 @@ IsJudgedText plan values spec block well text = IsTasklessText plan values spec 
 -- what is written of a room, with a block that says it
 pub record IsInputsText (plan : Plan) (values : List ℕ) (spec : RoomSpec) (well : Bool) (text : List ℕ) : Type 0 where
   pub block : List ℕ
-  pub says : block_in block ≡ Ok (spec, length block)
+  pub says : block_of All block ≡ Ok (spec, length block)
   pub judged : IsJudgedText plan values spec block well text
 
 -- The lines of the refused blocks, what is written of each room, and that these are samples; or this as JSON, and nothing else. All is well if no block was refused, and with each vector each schedule keeps the task.
 abbrev pub IsInputsSample : List ℕ → Plan → List ℕ → Outcome → List ℕ → Type 0
-IsInputsSample values plan input outcome output = IsRoomsOutput (IsInputsText plan values) plan (all_blocks input) outcome output
+IsInputsSample values plan input outcome output = IsRoomsOutput (IsInputsText plan values) plan (all_blocks All input) outcome output

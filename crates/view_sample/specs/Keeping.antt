@@ -3,7 +3,8 @@ use Rattle.std.specs.Prelude.{◌≡◌, ℕ, Bool, List, ◌++◌, length, Opti
 use Rattle.serde_json.specs.Data.{Data, member, no_members, null, number, object, string, unsigned}
 use Rattle.json_lines.specs.Lines.{json_line}
 use Rattle.protocol_lang.specs.Trees.{Tree}
-use Rattle.room_spec.specs.Blocks.{block_in}
+use Rattle.room_files.specs.Kinds.{block_of}
+use Rattle.room_files.specs.declared.kinds.Kinds.TheVariants.{All}
 use Rattle.room_spec.specs.Rooms.{RoomSpec}
 use Rattle.room_files.specs.Inputs.{all_blocks}
 use Rattle.room_files.specs.declared.outcome.Outcome.{Outcome}
@@ -57,7 +58,7 @@ breaks_in plan name block breaks = if plan.json then json_line (breaks_data name
 -- what is written of a room, with a block that says it: by how many schedules of the plan its history breaks the task; the task is kept if it is none
 pub record IsBreaksText (lines : List Tree) (plan : Plan) (spec : RoomSpec) (kept : Bool) (text : List ℕ) : Type 0 where
   pub block : List ℕ
-  pub says : block_in block ≡ Ok (spec, length block)
+  pub says : block_of All block ≡ Ok (spec, length block)
   pub breaks : Breaks
   pub judged : AreBreaks lines spec plan plan.schedules breaks
   pub text_is : text ≡ breaks_in plan spec.name block breaks
@@ -67,4 +68,4 @@ pub record IsBreaksText (lines : List Tree) (plan : Plan) (spec : RoomSpec) (kep
 
 -- The lines of the refused blocks, and of each room by how many schedules its history breaks the task; or this as JSON, and nothing else. All is well if no block was refused, and no history breaks the task.
 abbrev pub IsKeptSample : List Tree → Plan → List ℕ → Outcome → List ℕ → Type 0
-IsKeptSample lines plan input outcome output = IsRoomsOutput (IsBreaksText lines plan) plan (all_blocks input) outcome output
+IsKeptSample lines plan input outcome output = IsRoomsOutput (IsBreaksText lines plan) plan (all_blocks All input) outcome output

@@ -8,6 +8,8 @@ use Rattle.ws_history.specs.declared.states.Report.{Report as ReportData}
 use Rattle.service_core.specs.declared.reply.Reply.TheVariants as replies
 use Rattle.room_files.specs.declared.outcome.Outcome.{Outcome}
 use Rattle.room_files.specs.declared.outcome.Outcome.TheVariants.{AllWell}
+use Rattle.room_files.specs.Kinds.{block_of}
+use Rattle.room_files.specs.declared.kinds.Kinds.{Kinds}
 use Rattle.script_play.specs.Play.{IsPlayFor}
 use Rattle.script_play.specs.ReplyTexts.{reply_text}
 use Rattle.script_play.specs.Script.{script_says}
@@ -26,14 +28,14 @@ abbrev pub replies_to_schedule : List ℕ → List Stretch → ReportData → Li
 replies_to_schedule name schedule report =
     reply_text name 0 replies.Begun ++ (flat_map (reply_to_stretch name) schedule ++ (reply_text name 0 replies.Settled ++ reply_text name 0 (replies.Report report)))
 
--- The script has no fault. Whenever it is played and memory suffices, nothing is refused, the room follows the schedule, and it then reports
--- these states.
-pub record LeadsTo (name : List ℕ) (schedule : List Stretch) (states : List ProcessState) (script : List ℕ) : Type 0 where
+-- The script has no fault. Whenever it is played by a program that reads blocks as its own, and memory suffices, nothing is refused, the room
+-- follows the schedule, and it then reports these states.
+pub record LeadsTo (block name : List ℕ) (schedule : List Stretch) (states : List ProcessState) (script : List ℕ) : Type 0 where
   pub valid : IsOk (script_says script)
   pub report : ReportData
   pub states_are : report.states.items ≡ states
-  pub played : (outcome : Outcome) (output : List ℕ) → IsPlayFor script (Ok outcome) output → (outcome ≡ AllWell) × (output ≡ replies_to_schedule name schedule report)
+  pub played : (kinds : Kinds) (outcome : Outcome) (output : List ℕ) → IsOk (block_of kinds block) → IsPlayFor kinds script (Ok outcome) output → (outcome ≡ AllWell) × (output ≡ replies_to_schedule name schedule report)
 
 -- the script of an outcome leads to it
 abbrev pub HasScript : List ℕ → List ℕ → Shown → Type 0
-HasScript name block one = LeadsTo name one.schedule one.states (script_text name block one.schedule)
+HasScript name block one = LeadsTo block name one.schedule one.states (script_text name block one.schedule)

@@ -1,7 +1,8 @@
 -- Rooms that are sampled, and what is written of each.
 use Rattle.std.specs.Prelude.{◌≡◌, ◌≤◌, ◌⊎◌, ℕ, ◌-◌, take, Bool, true, false, not, ◌&&◌, ◌||◌, Option, None, Some, is_some, slice_get, List, [], ◌∷◌, ◌++◌, length, Ok, IfSome, IsPermutation}
 use Rattle.std.specs.List.{All, concat}
-use Rattle.room_spec.specs.Blocks.{block_in}
+use Rattle.room_files.specs.Kinds.{block_of}
+use Rattle.room_files.specs.declared.kinds.Kinds.TheVariants as kinds
 use Rattle.room_spec.specs.Rooms.{RoomSpec}
 use Rattle.view_sample.specs.Leads.{HasScript}
 use Rattle.room_sample.specs.Groups.{grouped_if}
@@ -72,7 +73,7 @@ IsReported (Some number) plan spec block outcomes well text = IsChosen number pl
 -- says the room.
 pub record IsSampleText (plan : Plan) (spec : RoomSpec) (well : Bool) (text : List ℕ) : Type 0 where
   pub block : List ℕ
-  pub says : block_in block ≡ Ok (spec, length block)
+  pub says : block_of kinds.All block ≡ Ok (spec, length block)
   pub outcomes : List Counted
   pub sample : IsSample spec plan outcomes
   pub among : AreAmongAll spec outcomes

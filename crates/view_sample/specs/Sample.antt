@@ -5,6 +5,7 @@ use Rattle.room_files.specs.Blocks.{Setup}
 use Rattle.room_files.specs.Inputs.{all_blocks}
 use Rattle.room_files.specs.Verdicts.{outcome_if}
 use Rattle.room_files.specs.declared.outcome.Outcome.{Outcome}
+use Rattle.room_files.specs.declared.kinds.Kinds.TheVariants.{All}
 use Rattle.view_sample.specs.Rooms.{AddsFirst, AddsSamples}
 use Rattle.room_sample.specs.declared.sampling.Plan.{Plan}
 
@@ -42,4 +43,4 @@ IsSampleOr plan setup (Ok outcome) output = IsSampleOutput plan setup outcome ou
 IsSampleOr plan setup (Err refused) output = IsCutOutput plan setup output
 
 abbrev pub IsSampleFor : Plan → List ℕ → Result Outcome AllocError → List ℕ → Type 0
-IsSampleFor plan input ending output = IsSampleOr plan (all_blocks input) ending output
+IsSampleFor plan input ending output = IsSampleOr plan (all_blocks All input) ending output

@@ -2,8 +2,9 @@
 ghost use Rattle.std.specs.Prelude.{◌≡◌, ◌≤◌, ◌++◌, not, ℕ, IfOk, IsSome, List, Ok, length, option_map};
 ghost use Rattle.std.specs.List.{All};
 ghost use Rattle.io_text.specs.Reading.{most_bytes};
-ghost use Rattle.room_spec.specs.Blocks.{block_in};
-ghost use Rattle.room_spec.specs.Grammar.{IsBlock};
+ghost use Rattle.room_files.specs.Kinds.{block_of};
+ghost use Rattle.room_files.specs.declared.kinds.Kinds.TheVariants as kinds;
+ghost use Rattle.run_blocks.specs.Blocks.{IsRoomBlock};
 ghost use Rattle.room_spec.specs.Rooms.{IsWithinLimits, RoomSpec, processes};
 ghost use Rattle.room_sample.specs.Samples.{AreAmongAll, CameByFirst, IsSample};
 ghost use Rattle.room_sample.specs.Shown.{IsShownIf, shown_of};
@@ -18,10 +19,11 @@ use crate::rooms::broken_example;
 use crate::sample::{head_of, write_last};
 use crate::sampled::Sampled;
 use crate::task_text::has_held;
-use input_vectors::{all_vectors, count_if_few, room_of, room_with};
+use input_vectors::{all_vectors, count_if_few};
 use io_text::Text;
-use room_files::{Answer, BlockList, Setup, outcome_if, read_all_blocks};
+use room_files::{Answer, BlockList, Kinds, Setup, outcome_if, read_all_blocks};
 use room_sample::{PartialSample, Plan, Tally, Workers, sample};
+use run_blocks::{room_of, room_with};
 use run_search::Progress;
 use std::alloc::{AllocError, Global};
 
@@ -51,7 +53,7 @@ pub fn sample_inputs<W: Workers, P: Progress>(
     ensures { IfOk result (λ answer. IsInputsSample asked.now.values.now asked.now.plan.now input.now answer.outcome answer.output) }
 {
     let no_blocks = Setup::new(BlockList::new(asked.alloc), Text::new(asked.alloc));
-    let Setup { rooms, refused, .. } = read_all_blocks(asked.alloc, no_blocks, input)?;
+    let Setup { rooms, refused, .. } = read_all_blocks(asked.alloc, Kinds::All, no_blocks, input)?;
     let is_accepted = refused.is_empty();
     let mut output = head_of(asked.alloc, asked.plan, refused);
     let kept = write_rooms(workers, &rooms, asked, &mut output, progress)?;
@@ -89,8 +91,8 @@ fn write_room<W: Workers, P: Progress>(
     progress: &mut P,
 ) -> Result<bool, AllocError>
     requires may { W.may_count }
-    requires block { (spec : RoomSpec) × (block_in block.now ≡ Ok (spec, length block.now)) }
-    ensures { IfOk result (λ well. (spec : RoomSpec) → block_in block.now ≡ Ok (spec, length block.now) →
+    requires block { (spec : RoomSpec) × (block_of kinds.All block.now ≡ Ok (spec, length block.now)) }
+    ensures { IfOk result (λ well. (spec : RoomSpec) → block_of kinds.All block.now ≡ Ok (spec, length block.now) →
         (text : List ℕ) × IsInputsText asked.now.plan.now asked.now.values.now spec well text × (output.new ≡ output.old ++ text)) }
 {
     let spec = room_of(asked.alloc, block)?;
@@ -113,7 +115,7 @@ fn judge_room<W: Workers, P: Progress>(
     progress: &mut P,
 ) -> Result<bool, AllocError>
     requires may { W.may_count }
-    requires block { IsBlock room.now.block.now room.now.spec.now (length room.now.block.now) }
+    requires block { IsRoomBlock room.now.block.now room.now.spec.now }
     ensures { IfOk result (λ well. (text : List ℕ) × IsJudgedText room.now.plan.now values.now room.now.spec.now room.now.block.now well text × (output.new ≡ output.old ++ text)) }
 {
     let Some(_task) = room.spec.task() else {
@@ -138,7 +140,7 @@ fn judge_vectors<W: Workers, P: Progress>(
     progress: &mut P,
 ) -> Result<usize, AllocError>
     requires may { W.may_count }
-    requires block { IsBlock room.now.block.now room.now.spec.now (length room.now.block.now) }
+    requires block { IsRoomBlock room.now.block.now room.now.spec.now }
     ensures { IfOk result (λ kept. AddsVectors (IsVectorText room.now.plan.now room.now.spec.now room.now.block.now) (vectors values.now (processes room.now.spec.now)) kept output.old output.new) }
 {
     let all = all_vectors(room.alloc, values, room.spec.n())?;
@@ -160,7 +162,7 @@ fn judge_vector<W: Workers, P: Progress>(
     progress: &mut P,
 ) -> Result<bool, AllocError>
     requires may { W.may_count }
-    requires block { IsBlock room.now.block.now room.now.spec.now (length room.now.block.now) }
+    requires block { IsRoomBlock room.now.block.now room.now.spec.now }
     requires inputs { length inputs.now ≡ processes room.now.spec.now }
     ensures { IfOk result (λ kept. (text : List ℕ) × IsVectorText room.now.plan.now room.now.spec.now room.now.block.now inputs.now kept text × (output.new ≡ output.old ++ text)) }
 {

@@ -1,7 +1,8 @@
 //! By how many schedules of a sample the histories of rooms break a task of one's own.
 ghost use Rattle.std.specs.Prelude.{◌≡◌, ◌≤◌, ◌++◌, ℕ, IfOk, List, Ok, OnOk, length};
 ghost use Rattle.io_text.specs.Reading.{most_bytes};
-ghost use Rattle.room_spec.specs.Blocks.{block_in};
+ghost use Rattle.room_files.specs.Kinds.{block_of};
+ghost use Rattle.room_files.specs.declared.kinds.Kinds.TheVariants.{All};
 ghost use Rattle.room_spec.specs.Rooms.{RoomSpec};
 ghost use Rattle.view_sample.specs.EachRoom.{AddsRooms};
 ghost use Rattle.view_sample.specs.Keeping.{IsBreaksText, IsKeptSample, breaks_in};
@@ -11,7 +12,7 @@ use crate::sample::{head_of, write_last};
 use crate::sampled::Sampled;
 use decision_tasks::DecisionTask;
 use io_text::Text;
-use room_files::{Answer, BlockList, Setup, outcome_if, read_all_blocks, read_room};
+use room_files::{Answer, BlockList, Kinds, Setup, outcome_if, read_all_blocks, read_room};
 use room_sample::Plan;
 use run_search::Progress;
 use sample_breaks::{Breaks, Judging, count_breaks};
@@ -40,7 +41,7 @@ pub fn sample_kept<P: Progress>(
     ensures { IfOk result (λ answer. IsKeptSample judged.now.task.now judged.now.plan.now input.now answer.outcome answer.output) }
 {
     let no_blocks = Setup::new(BlockList::new(alloc), Text::new(alloc));
-    let Setup { rooms, refused, .. } = read_all_blocks(alloc, no_blocks, input)?;
+    let Setup { rooms, refused, .. } = read_all_blocks(alloc, Kinds::All, no_blocks, input)?;
     let is_accepted = refused.is_empty();
     let mut output = head_of(alloc, judged.plan, refused);
     let kept = write_breaks(alloc, &rooms, judged, &mut output, progress)?;
@@ -76,11 +77,11 @@ fn write_room<P: Progress>(
     output: &mut Text,
     progress: &mut P,
 ) -> Result<bool, AllocError>
-    requires { (spec : RoomSpec) × (block_in block.now ≡ Ok (spec, length block.now)) }
-    ensures { IfOk result (λ kept. (spec : RoomSpec) → block_in block.now ≡ Ok (spec, length block.now) →
+    requires { (spec : RoomSpec) × (block_of All block.now ≡ Ok (spec, length block.now)) }
+    ensures { IfOk result (λ kept. (spec : RoomSpec) → block_of All block.now ≡ Ok (spec, length block.now) →
         (text : List ℕ) × IsBreaksText judged.now.task.now judged.now.plan.now spec kept text × (output.new ≡ output.old ++ text)) }
 {
-    let Ok((spec, _)) = read_room(alloc, block)? else {
+    let Ok((spec, _)) = read_room(alloc, Kinds::All, block)? else {
         unreachable!() // it is a room's block
     };
     let judging = Judging {

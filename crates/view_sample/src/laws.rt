@@ -1,8 +1,9 @@
 //! Laws of what a sample says: of its scripts, and of tasks.
-ghost use Rattle.std.specs.Prelude.{◌≡◌, ◌↔◌, ℕ, ◌<◌, ◌^◌, List, Ok, true, length};
+ghost use Rattle.std.specs.Prelude.{◌≡◌, ◌↔◌, ℕ, ◌<◌, ◌^◌, List, Ok, true, false, length};
 ghost use Rattle.std.specs.List.{sum_by};
-ghost use Rattle.room_spec.specs.Blocks.{block_in};
-ghost use Rattle.room_spec.specs.Rooms.{IsWithinLimits, RoomSpec};
+ghost use Rattle.room_files.specs.Kinds.{block_of};
+ghost use Rattle.room_files.specs.declared.kinds.Kinds.TheVariants.{All};
+ghost use Rattle.room_spec.specs.Rooms.{IsWithinLimits, RoomSpec, is_reduction};
 ghost use Rattle.transcript.specs.Tasks.{KeepsOwnTask};
 ghost use Rattle.room_core.specs.Calls.{RoomState};
 ghost use Rattle.room_core.specs.Fields.{Fields};
@@ -16,21 +17,23 @@ ghost use Rattle.room_sample.specs.Schedules.{IsOutcome};
 ghost use Rattle.room_sample.specs.declared.stretch.Stretch.{Stretch};
 ghost use Rattle.view_sample.specs.Leads.{LeadsTo};
 ghost use Rattle.view_sample.specs.Counts.{held_in, values_in};
-ghost use Rattle.view_sample.specs.Tasks.{keeps_task, times_broken};
+ghost use Rattle.view_sample.specs.Tasks.{judged_room, keeps_task, times_broken};
 ghost use Rattle.view_sample.specs.Texts.{script_text};
 
 /// The script of an outcome leads to it: `play` replies that the room takes each step and crash of the schedule, and then reports these
 /// states.
 pub fn leading_scripts()
     ensures { (spec : RoomSpec) (crashes : ℕ) (block : List ℕ) (schedule : List Stretch) (states : List ProcessState) →
-        IsWithinLimits spec → block_in block ≡ Ok (spec, length block) → IsOutcome spec crashes schedule states →
-        LeadsTo spec.name schedule states (script_text spec.name block schedule) }
+        IsWithinLimits spec → block_of All block ≡ Ok (spec, length block) → IsOutcome spec crashes schedule states →
+        LeadsTo block spec.name schedule states (script_text spec.name block schedule) }
 {}
 
-/// The states of a room's processes keep its task exactly if its history does. So a sample says of a schedule that it broke the task exactly if
-/// `bgsim check` would say it of the room's history.
+/// The states of a room's processes keep its task exactly if its history does; a reduction's task is judged by its simulators' inputs. So a sample says of a schedule that it broke the task exactly if
+/// its history breaks it; `bgsim check` says the same of the history of an ordinary room.
 pub fn kept_tasks()
-    ensures { (room : RoomState) (fields : Fields) → IsWithinLimits room.spec → AreFieldsOf room fields →
+    ensures judged { (room : RoomState) (fields : Fields) → IsWithinLimits room.spec → AreFieldsOf room fields →
+        (keeps_task room.spec (states_of room.spec fields) ≡ true) ↔ KeepsOwnTask (judged_room room.spec) (history_of room.spec fields) }
+    ensures ordinary { (room : RoomState) (fields : Fields) → IsWithinLimits room.spec → AreFieldsOf room fields → is_reduction room.spec ≡ false →
         (keeps_task room.spec (states_of room.spec fields) ≡ true) ↔ KeepsOwnTask room.spec (history_of room.spec fields) }
 {}
 

@@ -2,7 +2,8 @@
 ghost use Rattle.std.specs.Prelude.{◌≡◌, ◌≤◌, ◌⊎◌, ◌++◌, ℕ, IfOk, List, Ok, OnErr, OnOk, length, map, option_map, take};
 ghost use Rattle.std.specs.List.{All, sum_by};
 ghost use Rattle.room_files.specs.BlockLists.{IsBlockAt};
-ghost use Rattle.room_spec.specs.Blocks.{block_in};
+ghost use Rattle.room_files.specs.Kinds.{block_of};
+ghost use Rattle.room_files.specs.declared.kinds.Kinds.TheVariants as kinds;
 ghost use Rattle.room_spec.specs.Rooms.{IsWithinLimits, RoomSpec};
 ghost use Rattle.room_sample.specs.Groups.{grouped_if};
 ghost use Rattle.room_sample.specs.Samples.{AreAmongAll, CameByFirst, IsSample};
@@ -16,7 +17,7 @@ use crate::task::first_broken;
 use crate::task_text::{has_held, write_task};
 use crate::text::{shown_count, write_alone, write_sample};
 use io_text::Text;
-use room_files::{BlockList, read_room};
+use room_files::{BlockList, Kinds, read_room};
 use room_sample::{
     Example, PartialExamples, PartialSample, Plan, Showing, Tally, Workers, example_of,
     examples_of, sample,
@@ -89,12 +90,12 @@ fn write_room<W: Workers, P: Progress>(
     progress: &mut P,
 ) -> Result<bool, AllocError>
     requires may { W.may_count }
-    requires block { (spec : RoomSpec) × (block_in block.now ≡ Ok (spec, length block.now)) }
-    ensures whole { IfOk result (λ well. (spec : RoomSpec) → block_in block.now ≡ Ok (spec, length block.now) →
+    requires block { (spec : RoomSpec) × (block_of kinds.All block.now ≡ Ok (spec, length block.now)) }
+    ensures whole { IfOk result (λ well. (spec : RoomSpec) → block_of kinds.All block.now ≡ Ok (spec, length block.now) →
         (text : List ℕ) × IsSampleText plan.now spec well text × (output.new ≡ output.old ++ text)) }
-    ensures cut { OnErr result ((spec : RoomSpec) → block_in block.now ≡ Ok (spec, length block.now) → AddsCut plan.now spec output.old output.new) }
+    ensures cut { OnErr result ((spec : RoomSpec) → block_of kinds.All block.now ≡ Ok (spec, length block.now) → AddsCut plan.now spec output.old output.new) }
 {
-    let Ok((spec, _)) = read_room(alloc, block)? else {
+    let Ok((spec, _)) = read_room(alloc, Kinds::All, block)? else {
         unreachable!() // it is a room's block
     };
     let _shape = spec.shape(); // for the proof: the room is within its limits
@@ -121,7 +122,7 @@ fn write_room<W: Workers, P: Progress>(
 /// Writes what is said of these outcomes of a room.
 fn write_counted(room: &Sampled<'_>, output: &mut Text, outcomes: Tally) -> Result<bool, AllocError>
     requires limits { IsWithinLimits room.now.spec.now }
-    requires says { block_in room.now.block.now ≡ Ok (room.now.spec.now, length room.now.block.now) }
+    requires says { block_of kinds.All room.now.block.now ≡ Ok (room.now.spec.now, length room.now.block.now) }
     requires sample { IsSample room.now.spec.now room.now.plan.now outcomes }
     requires among { AreAmongAll room.now.spec.now outcomes }
     ensures whole { IfOk result (λ well. (text : List ℕ) × IsSampleText room.now.plan.now room.now.spec.now well text × (output.new ≡ output.old ++ text)) }
@@ -142,7 +143,7 @@ fn write_listed(
     mut outcomes: Tally,
 ) -> Result<bool, AllocError>
     requires limits { IsWithinLimits room.now.spec.now }
-    requires says { block_in room.now.block.now ≡ Ok (room.now.spec.now, length room.now.block.now) }
+    requires says { block_of kinds.All room.now.block.now ≡ Ok (room.now.spec.now, length room.now.block.now) }
     requires came { All (CameByFirst room.now.spec.now room.now.plan.now) outcomes }
     requires few { sum_by (λ one. one.times) outcomes ≤ room.now.plan.now.schedules }
     ensures whole { IfOk result (λ well. (text : List ℕ) × IsListed room.now.plan.now room.now.spec.now room.now.block.now outcomes well text × (output.new ≡ output.old ++ text)) }
@@ -290,7 +291,7 @@ fn write_chosen(
     number: u32,
 ) -> Result<bool, AllocError>
     requires limits { IsWithinLimits room.now.spec.now }
-    requires says { block_in room.now.block.now ≡ Ok (room.now.spec.now, length room.now.block.now) }
+    requires says { block_of kinds.All room.now.block.now ≡ Ok (room.now.spec.now, length room.now.block.now) }
     requires came { All (CameByFirst room.now.spec.now room.now.plan.now) outcomes }
     ensures whole { IfOk result (λ well. (text : List ℕ) × IsChosen number room.now.plan.now room.now.spec.now room.now.block.now outcomes well text × (output.new ≡ output.old ++ text)) }
     ensures err { OnErr result (output.new ≡ output.old) }

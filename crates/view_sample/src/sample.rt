@@ -6,7 +6,7 @@ ghost use Rattle.view_sample.specs.Sample.{IsSampleFor, head_of, is_for_people, 
 
 use crate::rooms::write_samples;
 use io_text::Text;
-use room_files::{BlockList, Outcome, Setup, outcome_if, read_all_blocks};
+use room_files::{BlockList, Kinds, Outcome, Setup, outcome_if, read_all_blocks};
 use room_sample::{Plan, Workers};
 use run_search::Progress;
 use script_play::PlayText;
@@ -34,7 +34,7 @@ pub fn sample_blocks<W: Workers, P: Progress>(
     ensures { IfOk result (λ reported. IsSampleFor plan.now input.now reported.ending reported.output) }
 {
     let no_blocks = Setup::new(BlockList::new(alloc), Text::new(alloc));
-    let Setup { rooms, refused, .. } = read_all_blocks(alloc, no_blocks, input)?;
+    let Setup { rooms, refused, .. } = read_all_blocks(alloc, Kinds::All, no_blocks, input)?;
     let is_accepted = refused.is_empty();
     let mut output = head_of(alloc, plan, refused);
     let samples = write_samples(workers, alloc, &rooms, plan, &mut output, progress);

@@ -1,15 +1,15 @@
 //! Whether the outcomes of a sample keep the room's task.
-ghost use Rattle.std.specs.Prelude.{◌≡◌, ◌≤◌, option_map};
-ghost use Rattle.std.specs.List.{list_all, sum_by};
+ghost use Rattle.std.specs.Prelude.{◌≡◌, ◌≤◌, ◌==◌, option_map};
+ghost use Rattle.std.specs.List.{list_all, list_any, sum_by};
 ghost use Rattle.room_sample.specs.Samples.{counted_of};
-ghost use Rattle.view_sample.specs.Tasks.{decides_input, first_broken, keeps_task, times_broken, times_if_broken};
+ghost use Rattle.view_sample.specs.Tasks.{decides_input, first_broken, given_inputs, is_this, keeps_task, times_broken, times_if_broken};
 
 use crate::counts::values_in;
 use room_sample::{Outcome, States, Tally};
 use room_spec::Spec;
 use ws_history::ProcessState;
 
-/// Whether each value that is decided is an input, and no more of them are different than the room's task allows. A room without a task
+/// Whether each value that is decided is an input that the room's block gives, and no more of them are different than the room's task allows. A room without a task
 /// has none to break.
 fn keeps_task(spec: &Spec, states: &[ProcessState]) -> bool
     ensures { result ≡ keeps_task spec.now states.now }
@@ -20,20 +20,52 @@ fn keeps_task(spec: &Spec, states: &[ProcessState]) -> bool
     }
 }
 
-/// Whether each value that is decided is some process's input.
+/// Whether each value that is decided is one of the inputs.
 fn decide_inputs(spec: &Spec, states: &[ProcessState]) -> bool
     ensures { result ≡ list_all (decides_input spec.now) states.now }
 {
     states.iter().all(|state| decides_input(spec, *state))
 }
 
-/// Whether what the process has decided, if it has, is some process's input.
+/// Whether what the process has decided, if it has, is one of the inputs.
 fn decides_input(spec: &Spec, state: ProcessState) -> bool
     ensures { result ≡ decides_input spec.now state }
 {
     match state {
-        ProcessState::Decided(v) => spec.has_input(v),
+        ProcessState::Decided(v) => has_given(spec, v),
         ProcessState::Spent | ProcessState::Held(_) | ProcessState::Going => true,
+    }
+}
+
+/// Whether the room's block gives this input: to a process, or in a reduction to a simulator.
+fn has_given(spec: &Spec, value: u32) -> bool
+    ensures { result ≡ list_any (λ input. input == value) (given_inputs spec.now) }
+{
+    if spec.is_reduction() {
+        has_own(spec, value)
+    } else {
+        spec.has_input(value)
+    }
+}
+
+/// Whether a simulator of a reduction has this input.
+fn has_own(spec: &Spec, value: u32) -> bool
+    ensures { result ≡ list_any (λ input. input == value) spec.now.own }
+{
+    let _ = spec.shape(); // for the proof: there are no more own inputs than simulators
+    let mut found = false;
+    for i in 0..spec.m() {
+        found |= is_this(spec.own(i), value);
+    }
+    found
+}
+
+fn is_this(own: Option<u32>, value: u32) -> bool
+    ensures { result ≡ is_this own value }
+{
+    match own {
+        Some(own) => own == value,
+        None => false,
     }
 }
 

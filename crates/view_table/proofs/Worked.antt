@@ -1,5 +1,5 @@
 -- The places of rooms that were worked by hand.
-use Rattle.std.proofs.Common.{◌≡◌, ℕ, ◌++◌, List, [], ◌∷◌, length, map, refl}
+use Rattle.std.proofs.Common.{◌≡◌, ℕ, true, false, ◌++◌, List, [], ◌∷◌, length, map, refl}
 use Rattle.std.specs.List.{flat_map, range_with_len}
 use Rattle.room_spec.specs.Sizes.{Sizes, memory_words}
 use Rattle.view_table.specs.declared.place.Place.{Place}
@@ -13,6 +13,7 @@ smallest = record {
   m = 1;
   bits = 1;
   rounds = 1;
+  reduction = false;
 }
 
 smallest_steps : index_of smallest (Memory 0) ≡ 0
@@ -46,6 +47,7 @@ two_by_two = record {
   m = 2;
   bits = 1;
   rounds = 1;
+  reduction = false;
 }
 
 two_by_two_words : words_of two_by_two ≡ 15
@@ -63,6 +65,7 @@ longest = record {
   m = 1;
   bits = 4;
   rounds = 15;
+  reduction = false;
 }
 
 longest_words : words_of longest ≡ 737
@@ -80,6 +83,7 @@ full = record {
   m = 4;
   bits = 2;
   rounds = 3;
+  reduction = false;
 }
 
 full_words : words_of full ≡ 249
@@ -111,7 +115,7 @@ longest_in_order = refl
 
 -- so many processes and simulators, with as many rounds from `first` on
 abbrev sized : ℕ → ℕ → ℕ → ℕ → ℕ → List Sizes
-sized n m bits first count = map (λ rounds. record { n = n; m = m; bits = bits; rounds = rounds }) (range_with_len first count)
+sized n m bits first count = map (λ rounds. record { n = n; m = m; bits = bits; rounds = rounds; reduction = false }) (range_with_len first count)
 
 -- the 40 rooms whose step numbers fill a word
 abbrev full_words_of_steps : List Sizes
@@ -133,6 +137,7 @@ big = record {
   m = 2;
   bits = 4;
   rounds = 15;
+  reduction = false;
 }
 
 big_words : (memory_words big ≡ 2) × (words_of big ≡ 965) × (index_of big (Out 1 8) ≡ 964)
@@ -146,14 +151,15 @@ widest = record {
   m = 8;
   bits = 4;
   rounds = 15;
+  reduction = false;
 }
 
 widest_words : memory_words widest ≡ 4
 unfolding widest memory_words
 widest_words = refl
 
--- the most words of any room
-most_words : words_of (record { n = 16; m = 4; bits = 4; rounds = 15 }) ≡ 5108
+-- the most words of an ordinary room
+most_words : words_of (record { n = 16; m = 4; bits = 4; rounds = 15; reduction = false }) ≡ 5108
 unfolding words_of memory_words
 most_words = refl
 
@@ -164,3 +170,37 @@ several_words = flat_map (λ some. some) (sized 9 8 1 1 1 ∷ sized 11 3 2 2 2 �
 several_words_in_order : map indexes several_words ≡ map all_words several_words
 unfolding index_of words_of memory_words
 several_words_in_order = refl
+
+-- ---- reductions
+
+-- two simulators run three processes for two rounds: the words of the ordinary room, and then three words of levels and six of proposals
+shared : Sizes
+shared = record {
+  n = 3;
+  m = 2;
+  bits = 2;
+  rounds = 2;
+  reduction = true;
+}
+
+shared_words : words_of shared ≡ 46
+unfolding shared words_of memory_words
+shared_words = refl
+
+ordinary_words : words_of (record shared { reduction = false }) ≡ 37
+unfolding shared words_of memory_words
+ordinary_words = refl
+
+-- the rounds from 1 on have the words that they have in the ordinary room
+same_levels : index_of shared (Levels 2 2) ≡ index_of (record shared { reduction = false }) (Levels 2 2)
+unfolding shared index_of memory_words
+same_levels = refl
+
+shared_inputs : map (index_of shared) (map (λ j. Levels j 0) (range_with_len 0 3) ++ flat_map (λ i. map (λ j. Value i j 0) (range_with_len 0 3)) (range_with_len 0 2)) ≡ range_with_len 37 9
+unfolding shared index_of memory_words
+shared_inputs = refl
+
+-- the most words of any room
+most_words_shared : words_of (record { n = 16; m = 4; bits = 4; rounds = 15; reduction = true }) ≡ 5188
+unfolding words_of memory_words
+most_words_shared = refl

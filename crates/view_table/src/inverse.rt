@@ -2,9 +2,9 @@
 ghost use Rattle.std.specs.Prelude.{◌≡◌, ◌+◌, ◌*◌, ◌<◌};
 ghost use Rattle.room_spec.specs.Sizes.{memory_words};
 ghost use Rattle.room_spec.specs.Shapes.{sizes_of};
-ghost use Rattle.view_table.specs.Places.{IsPlaceAt, levels_from, outs_from, pairs, values_from, views, views_from, words_of};
+ghost use Rattle.view_table.specs.Places.{IsPlaceAt, input_words, inputs_from, levels_from, outs_from, pairs, values_from, views, views_from, words_of};
 
-use crate::place::{Place, outs_from, values_from, views_from};
+use crate::place::{Place, inputs_from, outs_from, values_from, views_from};
 use room_spec::Shape;
 
 /// The place of the word that has this index among the room's words: the inverse of [`index`](crate::index).
@@ -25,7 +25,29 @@ pub fn place_at(shape: &Shape, index: usize) -> Place
     if index < outs_from(shape) {
         return value_at(shape, index - values_from(shape));
     }
-    out_at(shape, index - outs_from(shape))
+    if index < inputs_from(shape) {
+        return out_at(shape, index - outs_from(shape));
+    }
+    input_at(shape, index - inputs_from(shape))
+}
+
+/// The place of a word of the agreements on inputs.
+fn input_at(shape: &Shape, at: usize) -> Place
+    requires { at < input_words (sizes_of shape.now) }
+    ensures { IsPlaceAt (sizes_of shape.now) result (inputs_from (sizes_of shape.now) + at) }
+{
+    if at < shape.n {
+        return Place::Levels {
+            process: at,
+            round: 0,
+        };
+    }
+    let pair = at - shape.n;
+    Place::Value {
+        simulator: pair / shape.n,
+        process: pair % shape.n,
+        round: 0,
+    }
 }
 
 fn levels_at(shape: &Shape, at: usize) -> Place

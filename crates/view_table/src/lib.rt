@@ -6,4 +6,4 @@ pub mod laws;
 mod place;
 
 pub use inverse::place_at;
-pub use place::{MAX_WORDS, Place, index, words};
+pub use place::{MAX_WORDS, Place, index, later_levels, later_value, words};

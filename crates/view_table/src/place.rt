@@ -2,21 +2,23 @@
 ghost use Rattle.std.specs.Prelude.{◌≡◌, ◌+◌, ◌-◌, ◌*◌, ◌<◌, ◌≤◌};
 ghost use Rattle.room_spec.specs.Sizes.{memory_words};
 ghost use Rattle.room_spec.specs.Shapes.{sizes_of};
-ghost use Rattle.view_table.specs.Places.{IsSimulator, IsProcess, IsRound, IsMemoryWord, IsPlace, index_of, pairs, views, views_from, values_from, outs_from, words_of};
+ghost use Rattle.view_table.specs.declared.place.Place.TheVariants as places;
+ghost use Rattle.view_table.specs.Places.{IsSimulator, IsProcess, IsRound, IsAgreementRound, IsMemoryWord, IsPlace, index_of, pairs, views, views_from, values_from, outs_from, inputs_from, proposals_from, input_words, words_of};
 
 use room_spec::Shape;
 
 /// The most words of a room.
-pub const MAX_WORDS: usize = 5108;
+pub const MAX_WORDS: usize = 5188;
 
-/// A word of a room's shared memory. Simulators, processes and memory words are counted from 0, rounds from 1.
+/// A word of a room's shared memory. Simulators, processes and memory words are counted from 0, rounds from 1. In a
+/// reduction the simulators agree on the inputs of the processes before, in a round numbered 0: levels and values have it too.
 #[derive(Clone, Copy, Debug, PartialEq, Eq)]
 pub enum Place {
     /// One of the words with the step numbers of all processes at all simulators: the simulated memory.
     Memory {
         word: usize,
     },
-    /// The levels of all simulators in the agreement on a process's snapshot in a round.
+    /// The levels of all simulators in the agreement on a process's snapshot in a round; in the round 0 on its input.
     Levels {
         process: usize,
         round: usize,
@@ -28,7 +30,7 @@ pub enum Place {
         round: usize,
         word: usize,
     },
-    /// The value that a process writes in a round, as a simulator has it.
+    /// The value that a process writes in a round, as a simulator has it; in the round 0 the input that the simulator proposes for it.
     Value {
         simulator: usize,
         process: usize,
@@ -42,7 +44,8 @@ pub enum Place {
 }
 
 /// The index of a place among a room's words. Its numbers are those of a simulator, a process, a
-/// round and a memory word of the room.
+/// round and a memory word of the room. Most callers name the kind of the place, and then only the words of that kind are left of this.
+#[inline(always)]
 #[tactic(auto, unfolding(crate::specs::Places::index_of, crate::specs::Places::words_of))]
 pub fn index(shape: &Shape, place: Place) -> usize
     requires { IsPlace (sizes_of shape.now) place }
@@ -51,7 +54,7 @@ pub fn index(shape: &Shape, place: Place) -> usize
 {
     match place {
         Place::Memory { word } => word,
-        Place::Levels { process, round } => shape.memory_words() + in_round(shape, process, round),
+        Place::Levels { process, round } => levels(shape, process, round),
         Place::View {
             simulator,
             process,
@@ -65,9 +68,60 @@ pub fn index(shape: &Shape, place: Place) -> usize
             simulator,
             process,
             round,
-        } => values_from(shape) + in_round(shape, pair(shape, simulator, process), round),
+        } => value(shape, simulator, process, round),
         Place::Out { simulator, process } => outs_from(shape) + pair(shape, simulator, process),
     }
+}
+
+#[tactic(auto, using(crate::proofs::PlaceLemmas::levels_index_first))]
+fn levels(shape: &Shape, process: usize, round: usize) -> usize
+    requires process { IsProcess (sizes_of shape.now) process }
+    requires round { IsAgreementRound (sizes_of shape.now) round }
+    ensures { result ≡ index_of (sizes_of shape.now) (places.Levels process round) }
+{
+    if round == 0 {
+        inputs_from(shape) + process
+    } else {
+        later_levels(shape, process, round)
+    }
+}
+
+/// The index of the levels of a process in a round from 1 on, as `index` has it. This doesn't test for the round 0, so a
+/// caller who knows that the round is another pays nothing for the agreements on inputs.
+#[inline(always)]
+#[tactic(auto, using(crate::proofs::PlaceLemmas::levels_index))]
+pub fn later_levels(shape: &Shape, process: usize, round: usize) -> usize
+    requires process { IsProcess (sizes_of shape.now) process }
+    requires round { IsRound (sizes_of shape.now) round }
+    ensures { result ≡ index_of (sizes_of shape.now) (places.Levels process round) }
+{
+    shape.memory_words() + in_round(shape, process, round)
+}
+
+#[tactic(auto, using(crate::proofs::PlaceLemmas::value_index_first))]
+fn value(shape: &Shape, simulator: usize, process: usize, round: usize) -> usize
+    requires simulator { IsSimulator (sizes_of shape.now) simulator }
+    requires process { IsProcess (sizes_of shape.now) process }
+    requires round { IsAgreementRound (sizes_of shape.now) round }
+    ensures { result ≡ index_of (sizes_of shape.now) (places.Value simulator process round) }
+{
+    if round == 0 {
+        inputs_from(shape) + shape.n + pair(shape, simulator, process)
+    } else {
+        later_value(shape, simulator, process, round)
+    }
+}
+
+/// The index of the value of a simulator's process in a round from 1 on, as `index` has it, without a test for the round 0.
+#[inline(always)]
+#[tactic(auto, using(crate::proofs::PlaceLemmas::value_index))]
+pub fn later_value(shape: &Shape, simulator: usize, process: usize, round: usize) -> usize
+    requires simulator { IsSimulator (sizes_of shape.now) simulator }
+    requires process { IsProcess (sizes_of shape.now) process }
+    requires round { IsRound (sizes_of shape.now) round }
+    ensures { result ≡ index_of (sizes_of shape.now) (places.Value simulator process round) }
+{
+    values_from(shape) + in_round(shape, pair(shape, simulator, process), round)
 }
 
 /// How many words a room has, at most [`MAX_WORDS`].
@@ -75,6 +129,25 @@ pub fn index(shape: &Shape, place: Place) -> usize
 pub fn words(shape: &Shape) -> usize
     ensures value { result ≡ words_of (sizes_of shape.now) }
     ensures few { result ≤ MAX_WORDS }
+{
+    inputs_from(shape) + input_words(shape)
+}
+
+/// How many words the agreements on inputs have.
+fn input_words(shape: &Shape) -> usize
+    ensures value { result ≡ input_words (sizes_of shape.now) }
+    ensures few { result ≤ 144 }
+{
+    if shape.is_reduction() {
+        shape.n + pairs(shape)
+    } else {
+        0
+    }
+}
+
+pub(crate) fn inputs_from(shape: &Shape) -> usize
+    ensures value { result ≡ inputs_from (sizes_of shape.now) }
+    ensures few { result ≤ 9972 }
 {
     outs_from(shape) + pairs(shape)
 }

@@ -1,27 +1,31 @@
 -- What is said of what was done, one by one.
-use Rattle.std.proofs.Common.{◌≡◌, ◌∙◌, ℕ, Bool, true, false, List, [], ◌∷◌, ◌++◌, Option, Some, None, Result, Ok, Err, refl, sym, ap, ap₂, subst, arith}
+use Rattle.std.proofs.Common.{◌≡◌, ◌∙◌, ℕ, Bool, true, false, List, [], ◌++◌, Option, Some, None, Result, Ok, Err, refl, ap, ap₂, subst, arith}
 use Rattle.std.specs.Prelude.{codes, decimal}
 use Rattle.std.specs.Result.{OnOk}
-use Rattle.std.specs.List.{flat_map}
 use Rattle.std.specs.declared.alloc.AllocError.{AllocError}
 use Rattle.std.proofs.lemmas.Fmt.{decimal_digit}
 use Rattle.std.proofs.lemmas.List.{append-nil, append_assoc}
 use Rattle.room_core.specs.Calls.{RoomState}
 use Rattle.room_files.specs.Blocks.{refused_line}
 use Rattle.room_files.specs.declared.outcome.Outcome.{Outcome}
+use Rattle.room_files.specs.declared.kinds.Kinds.TheVariants.{All}
 use Rattle.service_core.specs.declared.command.Command.{Command}
 use Rattle.service_core.specs.declared.reply.Reply.{Reply}
 use Rattle.service_core.specs.declared.reply.Reply.TheVariants.{Begun, Steps, Crash, Settled, Report, Closed, Refused}
 use Rattle.service_core.specs.Replies.{name_in}
 use Rattle.service_core.specs.Rooms.{Entries, room_at, steps_of}
-use Rattle.script_play.specs.Following.{AreFollowed, AreWatched, IsPlay, decisions_at}
-use Rattle.script_play.specs.Play.{Done, Replied, done_text, refusal_in}
+use Rattle.script_play.specs.Following.{AreFollowed, AreWatched, IsPlay}
+use Rattle.script_play.specs.Play.{Done, Replied, refusal_in}
 use Rattle.script_play.specs.ReplyTexts.{sim_in}
 use Rattle.script_play.proofs.CallerLemmas.{followed_as}
 use Rattle.fault_text.specs.Lines.{indented}
 use Rattle.step_words.specs.Reported.{IsReported, Reporting, nothing_reported}
-use Rattle.view_trace.specs.Decisions.{decisions_under}
-use Rattle.view_trace.specs.Trace.{AreNotesFor, AreNotesOn, IsJsonTraceFor, IsTraceFor, IsTraceIn, IsTraced, IsWhole, MissedRooms, Traced, answer_text, done_shown, end_shown, missed_after, missed_by, nothing_traced, notes_after, refusal_shown}
+use Rattle.view_trace.specs.Trace.{AreNotesFor, AreNotesOn, IsTraceIn, IsTraced, IsWhole, MissedRooms, Traced, answer_text, done_shown, end_shown, left_under, missed_after, missed_by, nothing_traced, notes_after, refusal_shown}
+
+-- two pieces after a text
+pub two_texts : {T E : Type 0} (result : Result T E) (start middle whole first second : List ℕ) → middle ≡ start ++ first → OnOk result (whole ≡ middle ++ second) → OnOk result (whole ≡ start ++ (first ++ second))
+two_texts (Ok done) start middle whole first second is last = last ∙ ap (λ (t : List ℕ). t ++ second) is ∙ append_assoc start first second
+two_texts (Err fault) start middle whole first second is last = tt
 
 -- a line, and why, after a text
 pub two_pieces : {T E : Type 0} (result : Result T E) (output line why middle said now : List ℕ) → middle ≡ output ++ line → said ≡ why → OnOk result (now ≡ middle ++ indented said) → OnOk result (now ≡ output ++ (line ++ indented why))
@@ -39,7 +43,7 @@ answered true command reply = refl
 
 -- the notes under a reply
 notes_on : (json : Bool) (missed : MissedRooms) (room left : Option RoomState) (command : Command) (reply : Reply) (seen : Option Reporting) → AreWatched IsReported (Some (nothing_reported json)) (steps_of room command) seen → (refusal_in reply ≡ None → IsWhole seen)
-    → AreNotesOn json missed room left command reply (notes_after json missed (name_in command) reply seen ++ decisions_under reply json (decisions_at left))
+    → AreNotesOn json missed room left command reply (notes_after json missed (name_in command) reply seen ++ left_under reply json left)
 notes_on json missed room left command reply None reported whole = absurd reported
 notes_on json missed room left command Begun (Some reporting) reported whole = record { reporting = reporting; reported = reported; whole = whole refl; lines_are = append-nil reporting.lines }
 notes_on json missed room left command (Steps taken last) (Some reporting) reported whole = record { reporting = reporting; reported = reported; whole = whole refl; lines_are = append-nil reporting.lines }
@@ -53,26 +57,26 @@ notes_on json missed room left command (Refused refusal) (Some reporting) report
 module _ (json : Bool) (first ready now : Traced) (rooms after : Entries) (command : Command) (reply : Reply) (seen : Option Reporting) (name : List ℕ) (sim : ℕ) (named : name ≡ name_in command) (of : sim ≡ sim_in command)
     (missed : ready.missed ≡ first.missed) (output : ready.output ≡ first.output) where
   abbrev said : List ℕ → MissedRooms → List ℕ → ℕ → List ℕ
-  said out known n i = ((out ++ answer_text json n i reply) ++ notes_after json known n reply seen) ++ decisions_under reply json (decisions_at (room_at after n))
+  said out known n i = ((out ++ answer_text json n i reply) ++ notes_after json known n reply seen) ++ left_under reply json (room_at after n)
 
   abbrev under : List ℕ
-  under = notes_after json first.missed (name_in command) reply seen ++ decisions_under reply json (decisions_at (room_at after (name_in command)))
+  under = notes_after json first.missed (name_in command) reply seen ++ left_under reply json (room_at after (name_in command))
 
   said_is : said ready.output ready.missed name sim ≡ first.output ++ (done_shown json (Replied command reply) ++ under)
   said_is =
       ap₂ (λ out known. said out known name sim) output missed ∙ ap₂ (said first.output first.missed) named of
-      ∙ append_assoc (first.output ++ answer_text json (name_in command) (sim_in command) reply) (notes_after json first.missed (name_in command) reply seen) (decisions_under reply json (decisions_at (room_at after (name_in command))))
+      ∙ append_assoc (first.output ++ answer_text json (name_in command) (sim_in command) reply) (notes_after json first.missed (name_in command) reply seen) (left_under reply json (room_at after (name_in command)))
       ∙ append_assoc first.output (answer_text json (name_in command) (sim_in command) reply) under
       ∙ ap (λ (t : List ℕ). first.output ++ (t ++ under)) (answered json command reply)
 
   pub command_traced : (middle noted : List ℕ) → AreWatched IsReported (Some (nothing_reported json)) (steps_of (room_at rooms (name_in command)) command) seen → (refusal_in reply ≡ None → IsWhole seen)
-      → middle ≡ ready.output ++ answer_text json name sim reply → noted ≡ middle ++ notes_after json ready.missed name reply seen → now.output ≡ noted ++ decisions_under reply json (decisions_at (room_at after name))
+      → middle ≡ ready.output ++ answer_text json name sim reply → noted ≡ middle ++ notes_after json ready.missed name reply seen → now.output ≡ noted ++ left_under reply json (room_at after name)
       → now.missed ≡ missed_by ready.missed name reply → IsTraced json first rooms (Replied command reply) after now
   command_traced middle noted reported whole one two three known = record {
     notes = under;
     are_notes = notes_on json first.missed (room_at rooms (name_in command)) (room_at after (name_in command)) command reply seen reported whole;
     missed = known ∙ ap₂ (λ m n. missed_by m n reply) missed named;
-    output = three ∙ ap (λ (t : List ℕ). t ++ decisions_under reply json (decisions_at (room_at after name))) (two ∙ ap (λ (t : List ℕ). t ++ notes_after json ready.missed name reply seen) one) ∙ said_is;
+    output = three ∙ ap (λ (t : List ℕ). t ++ left_under reply json (room_at after name)) (two ∙ ap (λ (t : List ℕ). t ++ notes_after json ready.missed name reply seen) one) ∙ said_is;
   }
 
 -- a block was refused
@@ -83,7 +87,7 @@ block_traced json (Err error) before now done notes are written known = tt
 
 -- all of a script
 pub script_traced : {F : Type 0} (json : Bool) (view : F → Traced) (script : List ℕ) (first : F) (rooms : Entries) (last : F) (ending : Result Outcome AllocError) (output : List ℕ) → view first ≡ nothing_traced
-    → IsPlay (λ old before done after new. IsTraced json (view old) before done after (view new)) script first rooms last ending → output ≡ (view last).output ++ end_shown json script (view last).missed → IsTraceIn json script ending output
+    → IsPlay (λ old before done after new. IsTraced json (view old) before done after (view new)) All script first rooms last ending → output ≡ (view last).output ++ end_shown json script (view last).missed → IsTraceIn json script ending output
 script_traced json view script first rooms last ending output none is output_is = (
   is.entries,
   is.asked,

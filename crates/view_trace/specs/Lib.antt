@@ -1,3 +1,4 @@
 pub mod Decisions
+pub mod Inputs
 pub mod Json
 pub mod Trace

@@ -17,6 +17,7 @@ use Rattle.service_core.specs.Rooms.{Entries, room_at, steps_of}
 use Rattle.script_play.specs.Following.{AreFollowed, decisions_at}
 use Rattle.script_play.specs.Script.{Entry, script_says}
 use Rattle.room_files.specs.declared.outcome.Outcome.{Outcome}
+use Rattle.room_files.specs.declared.kinds.Kinds.TheVariants.{All}
 use Rattle.script_play.specs.Play.{AreDone, AreReplies, Done, Faulty, IsPlayText, Replied, Unread, commands_of, done_text, ending_of, replies_in}
 use Rattle.script_play.specs.ReplyTexts.{reply_text}
 use Rattle.json_lines.specs.Lines.{json_line}
@@ -24,7 +25,8 @@ use Rattle.step_words.specs.Reported.{IsReported, Reporting, nothing_reported}
 use Rattle.fault_text.specs.Lines.{indented}
 use Rattle.fault_text.specs.UnknownNames.{MetNames, is_met, met, more_note, refused_unknown_names}
 use Rattle.fault_text.specs.declared.refusals.RefusedBlock.{RefusedBlock}
-use Rattle.view_trace.specs.Decisions.{decisions_shown}
+use Rattle.view_trace.specs.Decisions.{decisions_shown, decisions_under}
+use Rattle.view_trace.specs.Inputs.{inputs_shown, inputs_under}
 use Rattle.view_trace.specs.Json.{done_data, reply_data}
 use Rattle.view_trace.specs.declared.missed.TheConstants.{MORE_COMMANDS}
 
@@ -89,9 +91,14 @@ abbrev pub block_shown : Bool → List ℕ → List ℕ
 block_shown false why = indented why
 block_shown true why = []
 
--- under a report: the steps of its command, of which there are none, and what each simulator of the room, as it is left, has decided
+-- what is said after these notes: under a report the inputs and the decisions in the room as it is left
+abbrev pub left_under : Reply → Bool → Option RoomState → List ℕ
+left_under reply json left = inputs_under reply json left ++ decisions_under reply json (decisions_at left)
+
+-- under a report: the steps of its command, of which there are none; which input each process has, if the room is a reduction; and what each
+-- simulator has decided, in the room as it is left
 abbrev pub AreReportNotes : Bool → Option RoomState → Option RoomState → Command → List ℕ → Type 0
-AreReportNotes json room left command notes = (lines : List ℕ) × AreLinesOf json (steps_of room command) lines × (notes ≡ lines ++ decisions_shown json (decisions_at left))
+AreReportNotes json room left command notes = (lines : List ℕ) × AreLinesOf json (steps_of room command) lines × (notes ≡ lines ++ (inputs_shown json left ++ decisions_shown json (decisions_at left)))
 
 -- under a reply: why the command was refused, or the steps that it took in the room of its name as it was then
 abbrev pub AreNotesOn : Bool → MissedRooms → Option RoomState → Option RoomState → Command → Reply → List ℕ → Type 0
@@ -135,7 +142,7 @@ end_shown true script missed = []
 -- What is said of a script's entries, as text or as JSON, and the end that goes with it.
 pub record IsTrace (json : Bool) (script : List ℕ) (entries : List Entry) (ending : Result Outcome AllocError) (output : List ℕ) : Type 0 where
   pub all : List Done
-  pub each_entry : AreDone entries all
+  pub each_entry : AreDone All entries all
   pub replies : AreReplies (commands_of all) (replies_in all)
   pub ending_is : ending ≡ ending_of all
   pub rooms : Entries
@@ -143,7 +150,7 @@ pub record IsTrace (json : Bool) (script : List ℕ) (entries : List Entry) (end
   pub followed : AreFollowed (IsTraced json) [] nothing_traced all rooms traced
   pub output_is : output ≡ traced.output ++ end_shown json script traced.missed
   -- this was done, and in text it is, without the notes, what `play` writes, with its ending
-  pub played : IsPlayText entries ending (flat_map done_text all)
+  pub played : IsPlayText All entries ending (flat_map done_text all)
 
 abbrev pub IsTraceIn : Bool → List ℕ → Result Outcome AllocError → List ℕ → Type 0
 IsTraceIn json input ending output = (entries : List Entry) × (script_says input ≡ Ok entries) × IsTrace json input entries ending output

@@ -71,7 +71,7 @@ fn write_simulator(output: &mut Text, simulator: usize, what: &[u8]) -> Result<(
 }
 
 /// Writes words, a number, and words.
-fn write_number(
+pub(crate) fn write_number(
     output: &mut Text,
     words: &[u8],
     number: u64,
@@ -84,7 +84,7 @@ fn write_number(
     output.put(after)
 }
 
-fn write_value(output: &mut Text, value: u32) -> Result<(), AllocError>
+pub(crate) fn write_value(output: &mut Text, value: u32) -> Result<(), AllocError>
     ensures { OnOk result (output.new ≡ output.old ++ ((32 ∷ decimal value) ++ codes "\n")) }
 {
     output.put_number(u64::from(value))?;

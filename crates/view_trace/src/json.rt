@@ -189,7 +189,8 @@ fn fault_numbers(alloc: Global, fault: SpecFault) -> Result<Value, AllocError>
         | SpecFault::Simulators
         | SpecFault::Rounds
         | SpecFault::Turns
-        | SpecFault::TooWide => json!(in alloc; [code]),
+        | SpecFault::TooWide
+        | SpecFault::Processes => json!(in alloc; [code]),
     }
 }
 

@@ -6,7 +6,7 @@ ghost use Rattle.script_play.specs.Script.{script_says};
 ghost use Rattle.view_trace.specs.Trace.{IsJsonTraceFor, IsTraceFor};
 
 use crate::tracer::Tracer;
-use room_files::InputFault;
+use room_files::{InputFault, Kinds};
 use script_play::{PlayText, Played, play_script};
 use std::alloc::Global;
 
@@ -26,7 +26,7 @@ pub fn trace(alloc: Global, script: &[u8]) -> Result<PlayText, InputFault>
         follower,
         ending,
         ..
-    } = play_script(alloc, Tracer::<false>::new(alloc), script)?;
+    } = play_script(alloc, Kinds::All, Tracer::<false>::new(alloc), script)?;
     let Tracer {
         mut output,
         missed,
@@ -50,7 +50,7 @@ pub fn trace_json(alloc: Global, script: &[u8]) -> Result<PlayText, InputFault>
         follower,
         ending,
         ..
-    } = play_script(alloc, Tracer::<true>::new(alloc), script)?;
+    } = play_script(alloc, Kinds::All, Tracer::<true>::new(alloc), script)?;
     let Tracer { output, .. } = follower;
     Ok(PlayText { output, ending })
 }

@@ -1,11 +1,13 @@
-//! What is said of a script: its replies, and under each the atomic steps that its command took, or what the simulators have decided.
+//! What is said of a script: its replies, and under each the atomic steps that its command took, or what the simulators have decided and which inputs they have agreed on.
 ghost use Rattle.std.specs.Prelude.{◌≡◌, ◌++◌, [], None, Option, OnOk};
 ghost use Rattle.step_words.specs.Reported.{Reporting};
 ghost use Rattle.script_play.specs.Play.{refusal_in};
-ghost use Rattle.view_trace.specs.Trace.{IsWhole, answer_text, fault_written, out_of_memory_written, lines_in, missed_by, missed_refused, notes_after, refusal_shown};
+ghost use Rattle.view_trace.specs.Trace.{IsWhole, answer_text, fault_written, left_under, out_of_memory_written, lines_in, missed_by, missed_refused, notes_after, refusal_shown};
+ghost use Rattle.service_core.specs.Rooms.{room_at};
 ghost use Rattle.script_play.specs.Following.{sim_for};
 
 use crate::decisions::write_decisions;
+use crate::inputs::write_inputs;
 use crate::json::{write_fault_object, write_out_of_memory_object, write_reply_object};
 use crate::missed::Missed;
 use fault_text::write_indented;
@@ -143,7 +145,7 @@ impl<const JSON: bool> Follows for Tracer<JSON> {
     ) -> Result<(), AllocError> {
         self.write_answer(asked, &reply)?;
         self.write_notes(asked.name, &reply, watch.take())?;
-        write_decisions::<JSON>(&mut self.output, &reply, rooms, asked.name)
+        write_left::<JSON>(&mut self.output, &reply, rooms, asked.name)
     }
 
     fn refuse(&mut self, line: u64, fault: SpecFault) -> Result<(), AllocError> {
@@ -154,6 +156,19 @@ impl<const JSON: bool> Follows for Tracer<JSON> {
     fn out_of_memory(&mut self, line: u64) -> Result<(), AllocError> {
         write_out_of_memory::<JSON>(self.alloc, &mut self.output, line)
     }
+}
+
+/// Writes under a report the inputs and the decisions in the room of this name.
+fn write_left<const JSON: bool>(
+    output: &mut Text,
+    reply: &Reply,
+    rooms: &Service,
+    name: &[u8],
+) -> Result<(), AllocError>
+    ensures { OnOk result (output.new ≡ output.old ++ left_under reply.now JSON (room_at rooms.now name.now)) }
+{
+    write_inputs::<JSON>(output, reply, rooms, name)?;
+    write_decisions::<JSON>(output, reply, rooms, name)
 }
 
 /// Writes that a block was refused for a fault of its own, and why.

@@ -21,7 +21,7 @@ use Rattle.service_core.proofs.CallerLemmas.{notes_lead}
 use Rattle.script_play.specs.Following.{AreWatched}
 use Rattle.script_play.specs.Play.{IsBlockOf}
 use Rattle.view_transcript.specs.Courses.{Course, after_closed, begun, course_after, left_as, under}
-use Rattle.view_transcript.specs.Transcripts.{AreByNotes, AreInOrder, HasBegun, HasEndedIf, HasSeen, HasSeenIf, IsFollowed, IsFresh, IsKept, IsKnown, Keeps, KeptRoom}
+use Rattle.view_transcript.specs.Transcripts.{AreByNotes, HasBegun, HasEndedIf, HasSeen, HasSeenIf, IsFollowed, IsFresh, IsKept, IsKnown, IsRunBlock, IsWrittenOf, Keeps, KeptRoom, Written}
 
 -- ---- the spec of a room stays
 
@@ -50,36 +50,42 @@ spec_left room after (commands.Close name) left = absurd cc
 -- ---- what is known
 
 -- an open room, or a closed one
-pub data Stands (course : Course) (room : Option RoomState) (notes : Option Notes) (events : Option (List Event)) : Type 0 where
-  open_room : (known : Notes) → course.is_open ≡ true → events ≡ None → notes ≡ Some known → room ≡ Some course.room → AreNotesOf (configuration_of course.room) course.schedule known → Stands course room notes events
-  closed_room : (known : List Event) → course.is_open ≡ false → events ≡ Some known → room ≡ None → AreInOrder course.room course.schedule known → Stands course room notes events
+pub data Stands (course : Course) (room : Option RoomState) (block : List ℕ) (notes : Option Notes) (events : Option (List Event)) : Type 0 where
+  open_room : (known : Notes) → course.is_open ≡ true → events ≡ None → notes ≡ Some known → room ≡ Some course.room → IsBlockOf course.room.spec block → AreNotesOf (configuration_of course.room) course.schedule known → Stands course room block notes events
+  closed_room : (known : List Event) → course.is_open ≡ false → events ≡ Some known → room ≡ None → IsWrittenOf course (record { block = block; events = known }) → Stands course room block notes events
 
-stands_by : (course : Course) (room : Option RoomState) (notes held : Option Notes) (events some : Option (List Event)) (b : Bool) → course.is_open ≡ b → notes ≡ held → events ≡ some → IsKnown b course room held some → Stands course room notes events
-stands_by course room notes None events None true is same none known = absurd known
-stands_by course room notes (Some held) events None true is same none known = open_room held is none same known.0 known.1
-stands_by course room notes None events (Some all) true is same some known = absurd known
-stands_by course room notes (Some held) events (Some all) true is same some known = absurd known
-stands_by course room notes held events None false is same none known = absurd known
-stands_by course room notes held events (Some all) false is same some known = closed_room all is some known.0 known.1
+stands_by : (course : Course) (room : Option RoomState) (block : List ℕ) (notes held : Option Notes) (events some : Option (List Event)) (b : Bool) → course.is_open ≡ b → notes ≡ held → events ≡ some → IsKnown b course room block held some → Stands course room block notes events
+stands_by course room block notes None events None true is same none known = absurd known
+stands_by course room block notes (Some held) events None true is same none known = open_room held is none same known.0 known.1 known.2
+stands_by course room block notes None events (Some all) true is same some known = absurd known
+stands_by course room block notes (Some held) events (Some all) true is same some known = absurd known
+stands_by course room block notes held events None false is same none known = absurd known
+stands_by course room block notes held events (Some all) false is same some known = closed_room all is some known.0 known.1
 
-pub stands : (course : Course) (room : Option RoomState) (kept : KeptRoom) → IsKept course room kept → Stands course room kept.notes kept.events
-stands course room kept is = stands_by course room kept.notes kept.notes kept.events kept.events course.is_open refl refl refl is.known
+pub stands : (course : Course) (room : Option RoomState) (kept : KeptRoom) → IsKept course room kept → Stands course room kept.block kept.notes kept.events
+stands course room kept is = stands_by course room kept.block kept.notes kept.notes kept.events kept.events course.is_open refl refl refl is
 
 -- an open room that goes on, with notes of it
 kept_open : (room : RoomState) (schedule : List ScheduleEvent) (kept : KeptRoom) (core : Option RoomState) (notes : Notes) → IsBlockOf room.spec kept.block → kept.events ≡ None → core ≡ Some room → kept.notes ≡ Some notes → AreNotesOf (configuration_of room) schedule notes
     → IsKept (record { room = room; schedule = schedule; is_open = true }) core kept
-kept_open room schedule kept core notes block none there same are = record {
-  block = block;
-  known = subst (IsKnown true (record { room = room; schedule = schedule; is_open = true }) core kept.notes) (sym none)
-      (subst (λ (n : Option Notes). IsKnown true (record { room = room; schedule = schedule; is_open = true }) core n None) (sym same) (there, are));
-}
+kept_open room schedule kept core notes block none there same are =
+    subst (IsKnown true (record { room = room; schedule = schedule; is_open = true }) core kept.block kept.notes) (sym none)
+    (subst (λ (n : Option Notes). IsKnown true (record { room = room; schedule = schedule; is_open = true }) core kept.block n None) (sym same) (there, block, are))
 
-kept_closed : (room : RoomState) (schedule : List ScheduleEvent) (kept : KeptRoom) (core : Option RoomState) (events : List Event) → IsBlockOf room.spec kept.block → kept.events ≡ Some events → core ≡ None → AreInOrder room schedule events
-    → IsKept (record { room = room; schedule = schedule; is_open = false }) core kept
-kept_closed room schedule kept core events block some gone are = record {
-  block = block;
-  known = subst (IsKnown false (record { room = room; schedule = schedule; is_open = false }) core kept.notes) (sym some) (gone, are);
-}
+-- ---- fields of a room with notes
+
+fields_of : (room : RoomState) (schedule : List ScheduleEvent) (notes : Notes) → AreNotesOf (configuration_of room) schedule notes → (fields : Fields) × AreFieldsOf room fields
+fields_of room schedule notes are = (
+  record (replay_fields room.spec (opening_fields room.spec) schedule) { quiet = λ a. (sweep_at room a).quiet },
+  record { run = record { schedule = schedule; legal = are.legal; leads = are.leads }; leads = refl; counts = λ a below. refl },
+)
+
+-- what is written of an open room, by its block and its notes
+pub written_by : (course : Course) (own : List ℕ) (notes : Notes) (written : Written) → IsBlockOf course.room.spec own → AreNotesOf (configuration_of course.room) course.schedule notes → IsRunBlock course.room own written.block → AreByNotes course.room (Some notes) written.events
+    → IsWrittenOf course written
+written_by course own notes written block are run events =
+    let some = fields_of course.room course.schedule notes are in
+    record { fields = some.0; are = some.1; block = run block some.0 some.1; events = events course.schedule are }
 
 -- ---- steps that are seen
 
@@ -135,8 +141,8 @@ module _ (course : Course) (kept : KeptRoom) (notes : Notes) (block : IsBlockOf 
   ends : (name : List ℕ) (core : Option RoomState) (now : Option KeptRoom) → core ≡ None → HasEndedIf (Some course.room) (Some kept) now → IsFollowed (Some (under course (commands.Close name))) core now
   ends name core None gone ended = absurd ended
   ends name core (Some now) gone ended =
-      subst (IsKept (under course (commands.Close name)) core) (sym ended.2)
-      (kept_closed course.room course.schedule (record kept { events = Some ended.0 }) core ended.0 block refl gone (subst (λ (n : Option Notes). AreByNotes course.room n ended.0) held ended.1 course.schedule are))
+      subst (IsKept (under course (commands.Close name)) core) (sym ended.3)
+      (gone, written_by (under course (commands.Close name)) kept.block notes ended.0 block are ended.2 (subst (λ (n : Option Notes). AreByNotes course.room n ended.0.events) held ended.1))
 
 -- ---- a closed room
 
@@ -144,14 +150,6 @@ stays_closed : (course : Course) (core : Option RoomState) (kept : KeptRoom) (no
 stays_closed course core kept None is gone seen = absurd seen
 stays_closed course core kept (Some now) is gone seen =
     subst (λ (c : Option RoomState). IsKept course c now) (sym gone) (subst (IsKept course None) (sym (same_kept kept now seen)) is)
-
--- ---- fields of a room with notes
-
-fields_of : (room : RoomState) (schedule : List ScheduleEvent) (notes : Notes) → AreNotesOf (configuration_of room) schedule notes → (fields : Fields) × AreFieldsOf room fields
-fields_of room schedule notes are = (
-  record (replay_fields room.spec (opening_fields room.spec) schedule) { quiet = λ a. (sweep_at room a).quiet },
-  record { run = record { schedule = schedule; legal = are.legal; leads = are.leads }; leads = refl; counts = λ a below. refl },
-)
 
 -- ---- a command that was not refused memory
 

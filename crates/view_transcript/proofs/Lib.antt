@@ -1,5 +1,6 @@
 mod Lookups
 mod Following
 mod Noting
+mod RunBlock
 mod Writing
 mod Looking

@@ -1,10 +1,9 @@
 -- What is kept of the room of a name before a command to it and after.
-use Rattle.std.proofs.Common.{◌≡◌, ◌∙◌, ℕ, false, List, Option, Some, None, Result, Ok, Err, refl, sym, ap, subst}
+use Rattle.std.proofs.Common.{◌≡◌, ◌∙◌, ℕ, List, Option, Some, None, Result, Ok, Err, refl, sym, ap, subst}
 use Rattle.std.specs.Prelude.{⊤}
 use Rattle.std.specs.Result.{OnOk}
 use Rattle.room_spec.specs.Rooms.{RoomSpec}
 use Rattle.std.specs.Map.{keys_of}
-use Rattle.std.specs.Str.{bytes_eq}
 use Rattle.room_core.specs.Calls.{RoomState}
 use Rattle.room_core.specs.Observing.{TakenStep}
 use Rattle.ws_history.specs.Notes.{IsNoted, Notes}

@@ -51,10 +51,10 @@ follows rooms after command reply None (Some core) kept now applies granted ther
 follows rooms after command reply (Some course) core None now applies granted there is keeps = absurd is
 follows rooms after command reply (Some course) core (Some kept) now applies granted there is keeps = by (stands course core kept is)
   where
-    by : Stands course core kept.notes kept.events → IsFollowed (course_after (Some course) command) (room_at after (name_in command)) now
-    by (open_room notes opened none held here are) =
+    by : Stands course core kept.block kept.notes kept.events → IsFollowed (course_after (Some course) command) (room_at after (name_in command)) now
+    by (open_room notes opened none held here block are) =
         subst (λ (b : Bool). IsFollowed (Some (cond b (under course command) (after_closed course command))) (room_at after (name_in command)) now) (sym opened)
-        (follows_open rooms after course kept notes is.block none held are command reply now applies granted (there ∙ here) keeps)
+        (follows_open rooms after course kept notes block none held are command reply now applies granted (there ∙ here) keeps)
     by (closed_room known closed some gone are) =
         subst (λ (b : Bool). IsFollowed (Some (cond b (under course command) (after_closed course command))) (room_at after (name_in command)) now) (sym closed)
         (follows_closed rooms after course kept (subst (λ (c : Option RoomState). IsKept course c kept) gone is) command reply now applies granted (there ∙ gone) keeps)

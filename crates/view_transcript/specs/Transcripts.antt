@@ -1,12 +1,14 @@
 -- The transcript of a script's rooms, with the events of each in the order in which they took effect.
-use Rattle.std.specs.Prelude.{◌≡◌, ⊤, ℕ, ◌<◌, Bool, true, false, List, [], ◌∷◌, ◌++◌, map, Option, Some, None, Result, Ok, codes}
+use Rattle.std.specs.Prelude.{◌≡◌, ⊤, ℕ, ◌<◌, Bool, true, false, List, [], ◌∷◌, ◌++◌, length, map, Option, Some, None, Result, Ok, codes}
 use Rattle.std.specs.declared.alloc.AllocError.{AllocError}
 use Rattle.std.specs.List.{flat_map}
 use Rattle.std.specs.Map.{keys_of, lookup}
 use Rattle.std.specs.Str.{bytes_eq}
 use Rattle.room_spec.specs.Rooms.{RoomSpec, processes}
-use Rattle.transcript.specs.Runs.{IsRun}
+use Rattle.ws_history.specs.Inputs.{IsRoomRun}
 use Rattle.transcript.specs.declared.event.Event.{Event}
+use Rattle.transcript.specs.Runs.{IsRun}
+use Rattle.room_core.specs.Agreements.{run_spec}
 use Rattle.room_core.specs.Calls.{RoomState, configuration_of}
 use Rattle.room_core.specs.Fields.{Fields}
 use Rattle.room_core.specs.Reading.{AreFieldsOf}
@@ -25,6 +27,8 @@ use Rattle.service_core.specs.Rooms.{Entries, room_at, steps_of}
 use Rattle.script_play.specs.Following.{AreWatched}
 use Rattle.script_play.specs.Play.{AreDone, AreReplies, Done, Faulty, IsBlockOf, Replied, Unread, commands_of, ending_of, replies_in}
 use Rattle.room_files.specs.BlockLists.{whole_block}
+use Rattle.room_files.specs.Kinds.{block_of}
+use Rattle.room_files.specs.declared.kinds.Kinds.TheVariants.{All, Ordinary}
 use Rattle.report_text.specs.ReportTexts.{event_lines}
 use Rattle.script_play.specs.Script.{Entry as Asked, script_says}
 use Rattle.view_transcript.specs.Courses.{Course, course_of, names_by, names_in, with_name}
@@ -39,8 +43,10 @@ pub record AreInOrder (room : RoomState) (schedule : List ScheduleEvent) (events
   pub timed : List (ℕ × Event)
   pub at_steps : AreEventsAtSteps room.spec schedule timed
   pub events_are : events ≡ map (λ event. event.1) timed
-  -- they are a run of the room's processes,
-  pub run : IsRun room.spec events
+  -- they are a run of the room's processes, in a reduction from the inputs that were agreed on,
+  pub run : (fields : Fields) → AreFieldsOf room fields → IsRun (run_spec room.spec fields) events
+  -- which are the simulators' own,
+  pub own : IsRoomRun room.spec events
   -- in which each does what it does in the room's history, and at most a last snapshot more
   pub same : (fields : Fields) → AreFieldsOf room fields → (p : ℕ) → p < processes room.spec → LackAtMostASnapshot p (events_of p (history_of room.spec fields)) (events_of p events)
 
@@ -49,9 +55,16 @@ pub record Written : Type 0 where
   pub block : List ℕ
   pub events : List Event
 
--- a room that a script opened is written: a block that says it, and its events
+-- these bytes are a block that says this room, and nothing more, if only blocks of ordinary rooms are read, as in a transcript
+abbrev pub IsOrdinaryBlock : RoomSpec → List ℕ → Type 0
+IsOrdinaryBlock spec block = block_of Ordinary block ≡ Ok (spec, length block)
+
+-- A room that a script opened is written: a block that says the ordinary room of which its events are a run, and these events. An ordinary room
+-- is that room itself; of a reduction it is the one whose processes have the inputs that were agreed on.
 pub record IsWrittenOf (course : Course) (written : Written) : Type 0 where
-  pub block : IsBlockOf course.room.spec written.block
+  pub fields : Fields
+  pub are : AreFieldsOf course.room fields
+  pub block : IsOrdinaryBlock (run_spec course.room.spec fields) written.block
   pub events : AreInOrder course.room course.schedule written.events
 
 abbrev pub IsWrittenIf : Option Course → Option Written → Type 0
@@ -80,7 +93,7 @@ pub record IsTranscribed (input : List ℕ) (ending : Result Outcome AllocError)
   pub entries : List Asked
   pub asked : script_says input ≡ Ok entries
   pub all : List Done
-  pub each_entry : AreDone entries all
+  pub each_entry : AreDone All entries all
   pub replies : AreReplies (commands_of all) (replies_in all)
   pub rooms : WrittenRooms
   pub are_rooms : AreRoomsOf all rooms
@@ -107,17 +120,20 @@ abbrev pub AreByNotes : RoomState → Option Notes → List Event → Type 0
 AreByNotes room None events = ⊤
 AreByNotes room (Some notes) events = (schedule : List ScheduleEvent) → AreNotesOf (configuration_of room) schedule notes → AreInOrder room schedule events
 
--- what is known of an open room by its notes, and of a closed one by its events
-abbrev pub IsKnown : Bool → Course → Option RoomState → Option Notes → Option (List Event) → Type 0
-IsKnown true course room None None = ⊥
-IsKnown true course room (Some notes) None = (room ≡ Some course.room) × AreNotesOf (configuration_of course.room) course.schedule notes
-IsKnown false course room notes (Some events) = (room ≡ None) × AreInOrder course.room course.schedule events
-IsKnown true course room notes (Some events) = ⊥
-IsKnown false course room notes None = ⊥
+-- this is the block of the run that the events of an open room are, if the other is the room's own
+abbrev pub IsRunBlock : RoomState → List ℕ → List ℕ → Type 0
+IsRunBlock room own block = IsBlockOf room.spec own → (fields : Fields) → AreFieldsOf room fields → IsOrdinaryBlock (run_spec room.spec fields) block
 
-pub record IsKept (course : Course) (room : Option RoomState) (kept : KeptRoom) : Type 0 where
-  pub block : IsBlockOf course.room.spec kept.block
-  pub known : IsKnown course.is_open course room kept.notes kept.events
+-- what is known of an open room by its block and its notes, and of a closed one, of which the block of its run and its events are kept
+abbrev pub IsKnown : Bool → Course → Option RoomState → List ℕ → Option Notes → Option (List Event) → Type 0
+IsKnown true course room block None None = ⊥
+IsKnown true course room block (Some notes) None = (room ≡ Some course.room) × IsBlockOf course.room.spec block × AreNotesOf (configuration_of course.room) course.schedule notes
+IsKnown false course room block notes (Some events) = (room ≡ None) × IsWrittenOf course (record { block = block; events = events })
+IsKnown true course room block notes (Some events) = ⊥
+IsKnown false course room block notes None = ⊥
+
+abbrev pub IsKept : Course → Option RoomState → KeptRoom → Type 0
+IsKept course room kept = IsKnown course.is_open course room kept.block kept.notes kept.events
 
 abbrev pub IsFollowed : Option Course → Option RoomState → Option KeptRoom → Type 0
 IsFollowed None None None = ⊤
@@ -145,10 +161,11 @@ HasSeenIf steps None after = after ≡ None
 HasSeenIf steps (Some before) None = ⊥
 HasSeenIf steps (Some before) (Some after) = HasSeen steps before after
 
--- of a room that is closed its events are kept
+-- of a room that is closed the block of its run and its events are kept
 abbrev pub HasEnded : Option RoomState → KeptRoom → KeptRoom → Type 0
 HasEnded None before after = after ≡ before
-HasEnded (Some room) before after = (events : List Event) × AreByNotes room before.notes events × (after ≡ record before { events = Some events })
+HasEnded (Some room) before after =
+    (written : Written) × AreByNotes room before.notes written.events × IsRunBlock room before.block written.block × (after ≡ record before { block = written.block; events = Some written.events })
 
 abbrev pub HasEndedIf : Option RoomState → Option KeptRoom → Option KeptRoom → Type 0
 HasEndedIf room None after = after ≡ None
@@ -216,6 +233,12 @@ IsReadyFor rooms before command after next notes = IsReadyAt (λ old new. IsSwap
 
 -- ---- the text
 
+-- the block of a room: that which is kept, or if it is open that of its run
+abbrev pub HasBlock : Option RoomState → List ℕ → Option (List Event) → List ℕ → Type 0
+HasBlock room own (Some known) block = block ≡ own
+HasBlock (Some core) own None block = IsRunBlock core own block
+HasBlock None own None block = block ≡ own
+
 -- the events of a room: those that are kept, or by its notes if it is open
 abbrev pub HasEvents : Option RoomState → Option Notes → Option (List Event) → List Event → Type 0
 HasEvents room notes (Some known) events = events ≡ known
@@ -224,11 +247,22 @@ HasEvents None notes None events = events ≡ []
 
 pub record IsWrittenFrom (rooms : Entries) (kept : List ℕ × KeptRoom) (written : List ℕ × Written) : Type 0 where
   pub name : written.0 ≡ kept.0
-  pub block : written.1.block ≡ kept.1.block
+  pub block : HasBlock (room_at rooms kept.0) kept.1.block kept.1.events written.1.block
   pub events : HasEvents (room_at rooms kept.0) kept.1.notes kept.1.events written.1.events
 
+-- its block, and its events
+abbrev pub IsBlockFrom : Entries → List ℕ × KeptRoom → List ℕ → Type 0
+IsBlockFrom rooms kept block = HasBlock (room_at rooms kept.0) kept.1.block kept.1.events block
+
+abbrev pub AreEventsFrom : Entries → List ℕ × KeptRoom → List ℕ × List Event → Type 0
+AreEventsFrom rooms kept events = (events.0 ≡ kept.0) × HasEvents (room_at rooms kept.0) kept.1.notes kept.1.events events.1
+
+-- one of each of the rooms that are kept, in their order
+abbrev pub AreEach : {A : Type 0} → (List ℕ × KeptRoom → A → Type 0) → KeptRooms → List A → Type 0
+AreEach Is [] [] = ⊤
+AreEach Is (kept ∷ others) (one ∷ rest) = Is kept one × AreEach Is others rest
+AreEach Is [] (one ∷ rest) = ⊥
+AreEach Is (kept ∷ others) [] = ⊥
+
 abbrev pub AreWrittenFrom : Entries → KeptRooms → WrittenRooms → Type 0
-AreWrittenFrom rooms [] [] = ⊤
-AreWrittenFrom rooms (kept ∷ others) (written ∷ rest) = IsWrittenFrom rooms kept written × AreWrittenFrom rooms others rest
-AreWrittenFrom rooms [] (written ∷ rest) = ⊥
-AreWrittenFrom rooms (kept ∷ others) [] = ⊥
+AreWrittenFrom rooms kept written = AreEach (IsWrittenFrom rooms) kept written

@@ -1,11 +1,11 @@
 //! The transcript of rooms, as text.
-ghost use Rattle.std.specs.Prelude.{◌≡◌, ◌++◌, OnOk, codes, List};
+ghost use Rattle.std.specs.Prelude.{◌≡◌, ◌++◌, ℕ, OnOk, List};
 ghost use Rattle.std.specs.List.{flat_map};
 ghost use Rattle.transcript.specs.declared.event.Event.{Event as EventData};
 ghost use Rattle.service_core.specs.Rooms.{room_at};
 ghost use Rattle.room_files.specs.BlockLists.{whole_block};
 ghost use Rattle.report_text.specs.ReportTexts.{event_lines};
-ghost use Rattle.view_transcript.specs.Transcripts.{AreWrittenFrom, HasEvents, WrittenRooms, transcript_text};
+ghost use Rattle.view_transcript.specs.Transcripts.{AreEach, AreEventsFrom, AreWrittenFrom, HasBlock, HasEvents, IsBlockFrom, WrittenRooms, transcript_text};
 
 use crate::kept::Kept;
 use indexmap::IndexMap;
@@ -25,21 +25,46 @@ pub(crate) fn write_rooms(
 ) -> Result<(), AllocError>
     ensures { OnOk result ((written : WrittenRooms) × AreWrittenFrom service.now rooms.now.entries written × (output.new ≡ output.old ++ transcript_text written)) }
 {
-    write_blocks(output, rooms)?;
+    write_blocks(alloc, output, service, rooms)?;
     output.put(b"events\n")?;
     write_all_events(alloc, output, service, rooms)
 }
 
-fn write_blocks(output: &mut Text, rooms: &IndexMap<Name, Kept>) -> Result<(), AllocError>
-    ensures { OnOk result (output.new ≡ output.old ++ flat_map (λ room. whole_block room.1.block) rooms.now.entries) }
+fn write_blocks(
+    alloc: Global,
+    output: &mut Text,
+    service: &Service,
+    rooms: &IndexMap<Name, Kept>,
+) -> Result<(), AllocError>
+    ensures { OnOk result ((blocks : List (List ℕ)) × AreEach (IsBlockFrom service.now) rooms.now.entries blocks × (output.new ≡ output.old ++ flat_map whole_block blocks)) }
 {
     for index in 0..rooms.len() {
-        let Some((_, kept)) = rooms.get_index(index) else {
+        let Some((name, kept)) = rooms.get_index(index) else {
             unreachable!() // there is an entry of each index below their number
         };
-        write_block(output, kept.block())?;
+        write_block_of(alloc, output, service, name, kept)?;
     }
     Ok(())
+}
+
+/// Writes the block of a room: that which is kept, or of an open room that of its run.
+fn write_block_of(
+    alloc: Global,
+    output: &mut Text,
+    service: &Service,
+    name: &Name,
+    kept: &Kept,
+) -> Result<(), AllocError>
+    ensures { OnOk result ((block : List ℕ) × HasBlock (room_at service.now name.now) kept.now.block kept.now.events block × (output.new ≡ output.old ++ whole_block block)) }
+{
+    if kept.events().is_some() {
+        return write_block(output, kept.block());
+    }
+    let Some(room) = service.room(name.as_str().as_bytes()) else {
+        return write_block(output, kept.block());
+    };
+    let block = kept.block_in(alloc, room)?;
+    write_block(output, block.as_slice())
 }
 
 fn write_all_events(
@@ -48,7 +73,7 @@ fn write_all_events(
     service: &Service,
     rooms: &IndexMap<Name, Kept>,
 ) -> Result<(), AllocError>
-    ensures { OnOk result ((written : WrittenRooms) × AreWrittenFrom service.now rooms.now.entries written × (output.new ≡ output.old ++ flat_map (λ room. event_lines room.0 room.1.events) written)) }
+    ensures { OnOk result ((events : List (List ℕ × List EventData)) × AreEach (AreEventsFrom service.now) rooms.now.entries events × (output.new ≡ output.old ++ flat_map (λ one. event_lines one.0 one.1) events)) }
 {
     for index in 0..rooms.len() {
         let Some((name, kept)) = rooms.get_index(index) else {

@@ -8,7 +8,7 @@ ghost use Rattle.view_transcript.specs.Transcripts.{AreWrittenFrom, IsTranscribe
 use crate::text::write_rooms;
 use crate::transcriber::Transcriber;
 use io_text::Text;
-use room_files::InputFault;
+use room_files::{InputFault, Kinds};
 use script_play::{PlayText, Played, play_script};
 use service_core::Service;
 use std::alloc::{AllocError, Global};
@@ -32,7 +32,7 @@ pub fn transcribe(alloc: Global, script: &[u8]) -> Result<PlayText, InputFault>
         service,
         follower,
         ending,
-    } = play_script(alloc, Transcriber::new(alloc), script)?;
+    } = play_script(alloc, Kinds::All, Transcriber::new(alloc), script)?;
     let output = text_of(alloc, &service, &follower)?;
     Ok(PlayText { output, ending })
 }

@@ -12,7 +12,7 @@ use Rattle.transcript.proofs.CallerLemmas.{any_different, different-push, no_inp
 use Rattle.view_why.specs.declared.reported.Decision.{Decision}
 use Rattle.view_why.specs.Reported.{AreDecidedBefore, IsFirstDecision, ReportedRoom}
 
-any-map : {X Y : Type 0} (p : Y → Bool) (f : X → Y) (xs : List X) → list_any (λ x. p (f x)) xs ≡ list_any p (map f xs)
+pub any-map : {X Y : Type 0} (p : Y → Bool) (f : X → Y) (xs : List X) → list_any (λ x. p (f x)) xs ≡ list_any p (map f xs)
 any-map p f [] = refl
 any-map p f (x ∷ xs) = ap (λ b. p (f x) || b) (any-map p f xs)
 

@@ -1,5 +1,5 @@
 -- What is said of rooms, one behind the other.
-use Rattle.std.proofs.Common.{◌≡◌, ◌∙◌, ℕ, suc, ◌+◌, ◌≤◌, Bool, true, false, ◌&&◌, ◌==◌, List, [], ◌∷◌, ◌++◌, length, map, take, Some, refl, sym, ap, subst, arith}
+use Rattle.std.proofs.Common.{◌≡◌, ◌∙◌, ℕ, suc, ◌+◌, ◌≤◌, Bool, true, false, ◌&&◌, ◌==◌, List, [], ◌∷◌, ◌++◌, length, map, take, Option, Some, None, refl, sym, ap, subst, arith}
 use Rattle.std.specs.Prelude.{slice_get, Result, Ok, Err, IsOk}
 use Rattle.std.specs.List.{All, AllByRecursion, flat_map, list_all}
 use Rattle.std.proofs.lemmas.Grind.{flat_map-append}
@@ -8,10 +8,13 @@ use Rattle.std.proofs.lemmas.List.Elements.{All-from_recursion, All-nil, All-pus
 use Rattle.std.proofs.lemmas.List.Folds.{list_all-append}
 use Rattle.std.proofs.lemmas.Option.{slice_get_within, get_or_from_slice_get}
 use Rattle.std.proofs.Math.Seq.{take-suc}
-use Rattle.room_spec.specs.Rooms.{RoomSpec}
+use Rattle.room_spec.specs.Rooms.{RoomSpec, is_reduction}
+use Rattle.transcript.specs.Reductions.{IsFirstBreakOf, IsRunOf}
 use Rattle.transcript.specs.declared.event.Event.{Event}
 use Rattle.transcript.specs.Runs.{IsFirstBreak, IsRun}
-use Rattle.history_checker.specs.Verdicts.{FedEvent, IsTaskAnswer, IsVerdict, events_of, fed_to}
+use Rattle.history_checker.specs.Verdicts.{FedEvent, IsTaskAnswer, events_of, fed_to}
+use Rattle.history_checker.specs.declared.reason.Reason.{Reason}
+use Rattle.history_checker.specs.declared.verdict.Verdict.TheVariants.{Run, Broken}
 use Rattle.room_files.specs.Blocks.{Setup}
 use Rattle.room_files.specs.Faults.{FaultAt}
 use Rattle.room_files.specs.Inputs.{later_events, fed_from}
@@ -19,20 +22,34 @@ use Rattle.room_files.specs.Lines.{text_lines}
 use Rattle.room_files.specs.Verdicts.{IsJustified, Judged, is_well, outcome_if}
 use Rattle.room_files.specs.declared.outcome.Outcome.{Outcome}
 use Rattle.fault_text.specs.Refusals.{refusal_line}
-use Rattle.view_why.specs.Reported.{IsLineBreak, IsReported, ReportedRoom, lines_of}
-use Rattle.view_why.specs.Why.{Explained, IsExplained, IsExplanation, IsReasonIn, IsRoomSaid, explained_lines, refusals_shown, reported_of, verdict_of}
+use Rattle.view_why.specs.Reported.{IsBreakFor, IsLineBreak, IsReported, IsRunBy, IsRunIn, ReportedRoom, lines_of}
+use Rattle.view_why.specs.Verdicts.{IsJustifiedIn, IsTaskAnswerIn, IsVerdictBy, IsVerdictIn}
+use Rattle.view_why.specs.Why.{AreOrdinary, Explained, IsExplained, IsExplanation, IsReasonIn, IsRoomSaid, explained_lines, refusals_shown, reported_of, verdict_of}
 use Rattle.fault_text.specs.declared.refusals.RefusedBlock.{RefusedBlock}
 use Rattle.view_why.specs.declared.reported.LineBreak.{LineBreak}
-use Rattle.view_why.proofs.Reporting.{fed_at}
+use Rattle.view_why.proofs.Owning.{judged_as_is}
+use Rattle.view_why.proofs.Reporting.{IsFedOn, fed_at}
+
+run_by : (spec : RoomSpec) (fed : List FedEvent) (events : List Event) (reduction : Bool) → events ≡ events_of fed → IsRunBy reduction spec events → IsVerdictBy reduction spec fed Run
+run_by spec fed events false is run = subst (IsRun spec) is run
+run_by spec fed events true is run = subst (IsRunOf spec) is run
+
+broken_by : (reported : ReportedRoom) (fed : List FedEvent) (broken : LineBreak) (reason : Option Reason) → IsReported fed reported → IsFedOn fed broken.at broken.line → IsBreakFor reported.spec reported.events broken.at reason → IsVerdictIn reported.spec fed (Broken broken.line)
+broken_by reported fed broken None is on first =
+    subst (λ (reduction : Bool). IsVerdictBy reduction reported.spec fed (Broken broken.line)) (sym first.0)
+    (record { place = broken.at; first = subst (λ (events : List Event). IsFirstBreakOf reported.spec events broken.at) is.0 first.1; one = on.one; there = on.there; line_is = on.line_is })
+broken_by reported fed broken (Some reason) is on first =
+    subst (λ (reduction : Bool). IsVerdictBy reduction reported.spec fed (Broken broken.line)) (sym first.0)
+    (record { place = broken.at; first = subst (λ (events : List Event). IsFirstBreak reported.spec events broken.at) is.0 first.1.first; one = on.one; there = on.there; line_is = on.line_is })
 
 -- the verdict of a room's break
-pub is_verdict : (reported : ReportedRoom) (fed : List FedEvent) (reason : Result (Unit {0}) LineBreak) → IsReported fed reported → (IsOk reason → IsRun reported.spec reported.events) → ((broken : LineBreak) → reason ≡ Err broken → IsLineBreak reported broken)
-    → IsVerdict reported.spec fed (verdict_of reason)
-is_verdict reported fed (Ok run) is runs breaks = subst (IsRun reported.spec) is.0 (runs refl)
+pub is_verdict : (reported : ReportedRoom) (fed : List FedEvent) (reason : Result (Unit {0}) LineBreak) → IsReported fed reported → (IsOk reason → IsRunIn reported.spec reported.events) → ((broken : LineBreak) → reason ≡ Err broken → IsLineBreak reported broken)
+    → IsVerdictIn reported.spec fed (verdict_of reason)
+is_verdict reported fed (Ok run) is runs breaks = run_by reported.spec fed reported.events (is_reduction reported.spec) is.0 (runs refl)
 is_verdict reported fed (Err broken) is runs breaks =
     let breaks_there = breaks broken refl in
     let on = fed_at fed broken.at broken.line (subst (λ (lines : List ℕ). slice_get lines broken.at ≡ Some broken.line) is.1 breaks_there.line) in
-    record { place = broken.at; first = subst (λ (events : List Event). IsFirstBreak reported.spec events broken.at) is.0 breaks_there.first.first; one = on.one; there = on.there; line_is = on.line_is }
+    broken_by reported fed broken broken.reason is on breaks_there.first
 
 -- what is reported of a room, by what was fed
 pub reported_is : (reported : ReportedRoom) (fed : List FedEvent) → IsReported fed reported → reported ≡ record { spec = reported.spec; events = events_of fed; lines = lines_of fed }
@@ -77,7 +94,7 @@ one_more json rooms start refused fed count output well room output_now well_now
     let within = slice_get_within rooms count room there in
     let plus : count + 1 ≡ suc count = omega arith in
     let next : take (count + 1) rooms ≡ take count rooms ++ room ∷ [] = ap (λ n. take n rooms) plus ∙ take-suc rooms count room within ∙ ap (λ r. take count rooms ++ r ∷ []) (get_or_from_slice_get rooms count room room there) in
-    let P : RoomSpec → Type 0 = λ (r : RoomSpec). (IsVerdict r (fed_to r.name fed) one.judged.verdict × IsTaskAnswer r (fed_to r.name fed) one.judged.task) × IsReasonIn json (reported_of r fed) one.judged.verdict one.judged.task one.notes in
+    let P : RoomSpec → Type 0 = λ (r : RoomSpec). (IsVerdictIn r (fed_to r.name fed) one.judged.verdict × IsTaskAnswerIn r (fed_to r.name fed) one.judged.task) × IsReasonIn json (reported_of r fed) one.judged.verdict one.judged.task one.notes in
     let explained : IsExplained json fed one = subst P (sym said.room) ((said.verdict, said.task), said.because) in (
       all ++ one ∷ [],
       map_push (λ (o : Explained). o.judged.room) all one ∙ ap (λ rs. rs ++ one.judged.room ∷ []) so_far.1 ∙ ap (λ r. take count rooms ++ r ∷ []) said.room ∙ sym next,
@@ -93,12 +110,23 @@ rooms_judged : (all : List Explained) → map (λ (one : Judged). one.room) (map
 rooms_judged [] = refl
 rooms_judged (one ∷ all) = ap (λ rooms. one.judged.room ∷ rooms) (rooms_judged all)
 
-justified_each : (json : Bool) (fed : List FedEvent) (all : List Explained) → AllByRecursion (IsExplained json fed) all → AllByRecursion (IsJustified fed) (map (λ (one : Explained). one.judged) all)
-justified_each json fed [] each = tt
-justified_each json fed (one ∷ all) each = (each.0.0, justified_each json fed all each.1)
+-- the verdicts on an ordinary room are those of `check`
+ordinary_justified : (fed : List FedEvent) (one : Judged) → is_reduction one.room ≡ false → IsJustifiedIn fed one → IsJustified fed one
+ordinary_justified fed one ordinary is = (
+  subst (λ (reduction : Bool). IsVerdictBy reduction one.room (fed_to one.room.name fed) one.verdict) ordinary is.0,
+  subst (λ (spec : RoomSpec). IsTaskAnswer spec (fed_to one.room.name fed) one.task) (judged_as_is one.room ordinary) is.1,
+)
 
-all_justified : (json : Bool) (fed : List FedEvent) (all : List Explained) → All (IsExplained json fed) all → All (IsJustified fed) (map (λ (one : Explained). one.judged) all)
-all_justified json fed all each = All-from_recursion (IsJustified fed) (map (λ (one : Explained). one.judged) all) (justified_each json fed all (recursion_from_All (IsExplained json fed) all each))
+justified_each : (json : Bool) (fed : List FedEvent) (all : List Explained) → AllByRecursion (λ (room : RoomSpec). is_reduction room ≡ false) (map (λ (one : Explained). one.judged.room) all) → AllByRecursion (IsExplained json fed) all
+    → AllByRecursion (IsJustified fed) (map (λ (one : Explained). one.judged) all)
+justified_each json fed [] ordinary each = tt
+justified_each json fed (one ∷ all) ordinary each = (ordinary_justified fed one.judged ordinary.0 each.0.0, justified_each json fed all ordinary.1 each.1)
+
+all_justified : (json : Bool) (fed : List FedEvent) (all : List Explained) → AreOrdinary (map (λ (one : Explained). one.judged.room) all) → All (IsExplained json fed) all → All (IsJustified fed) (map (λ (one : Explained). one.judged) all)
+all_justified json fed all ordinary each =
+    let is_ordinary = λ (room : RoomSpec). is_reduction room ≡ false in
+    All-from_recursion (IsJustified fed) (map (λ (one : Explained). one.judged) all)
+    (justified_each json fed all (recursion_from_All is_ordinary (map (λ (one : Explained). one.judged.room) all) ordinary) (recursion_from_All (IsExplained json fed) all each))
 
 pub all_said : (json : Bool) (input : List ℕ) (refusals : List RefusedBlock) (rooms : List RoomSpec) (fed : List FedEvent) (count : ℕ) (output : List ℕ) (well : Bool) (outcome : Outcome) → length rooms ≤ count → outcome ≡ outcome_if well → SoFar json rooms (refusals_shown json input refusals) (flat_map refusal_line refusals) fed count output well
     → IsExplanation json input rooms (flat_map refusal_line refusals) fed outcome output
@@ -109,10 +137,11 @@ all_said json input refusals rooms fed count output well outcome all_of outcome_
   each_room = so_far.1 ∙ take_all count rooms all_of;
   explained = so_far.2;
   output_is = so_far.3;
-  checked = record {
+  outcome_is = outcome_is ∙ ap outcome_if so_far.4;
+  checked = λ ordinary. record {
     all = map (λ (one : Explained). one.judged) so_far.0;
     each_room = rooms_judged so_far.0 ∙ so_far.1 ∙ take_all count rooms all_of;
-    justified = all_justified json fed so_far.0 so_far.2;
+    justified = all_justified json fed so_far.0 (subst AreOrdinary (sym (so_far.1 ∙ take_all count rooms all_of)) ordinary) so_far.2;
     output_is = refl;
     outcome_is = outcome_is ∙ ap outcome_if so_far.4;
   };

@@ -2,9 +2,8 @@
 use Rattle.std.proofs.Common.{◌≡◌, ◌∙◌, ◌||◌, ℕ, false, List, Option, Some, None, refl, ap}
 use Rattle.serde_json.specs.Data.{Data}
 use Rattle.serde_json.specs.Written.{has_float}
-use Rattle.json_lines.specs.Values.{entry_data, event_data, row_data}
-use Rattle.json_lines.proofs.CallerLemmas.{both, event_is, items_are}
-use Rattle.room_spec.specs.Rooms.{RoomSpec}
+use Rattle.json_lines.specs.Values.{entry_data, event_data, numbers_data, row_data}
+use Rattle.json_lines.proofs.CallerLemmas.{both, event_is, items_are, numbers_are}
 use Rattle.transcript.specs.declared.event.Event.{Event}
 use Rattle.transcript.specs.declared.event.Event.TheVariants as events
 use Rattle.protocol_lang.specs.declared.meaning.Action.{Action}
@@ -18,9 +17,9 @@ use Rattle.history_checker.specs.declared.verdict.TaskVerdict.{TaskVerdict}
 use Rattle.history_checker.specs.declared.verdict.TaskVerdict.TheVariants as tasks
 use Rattle.history_checker.specs.declared.verdict.Verdict.{Verdict}
 use Rattle.history_checker.specs.declared.verdict.Verdict.TheVariants.{Run, Broken}
-use Rattle.view_why.specs.Json.{action_data, break_data, decision_data, decisions_data, excess_data, input_data, kept_data, reason_data, turn_data, written_data}
+use Rattle.view_why.specs.Json.{action_data, break_data, decision_data, decisions_data, excess_data, input_data, kept_data, reason_data, turn_data, why_data, written_data}
 use Rattle.view_why.specs.Keeping as keeping
-use Rattle.view_why.specs.Reported.{ReportedRoom}
+use Rattle.view_why.specs.Reported.{ReportedRoom, given_inputs}
 use Rattle.view_why.specs.Why.{IsRoomData, IsTaskData}
 use Rattle.view_why.specs.Words.{shown_of}
 use Rattle.view_why.specs.declared.reported.Decision.{Decision}
@@ -55,22 +54,26 @@ reason_is event (WrongEntry q written) earlier =
     both (has_float (written_data written earlier)) shown (written_is written earlier) (both (has_float (entry_data (shown_of event q))) false (entry_is (shown_of event q)) refl)
 reason_is event TooManyWrites earlier = refl
 
-break_is : (event : Event) (broken : LineBreak) → has_float (break_data event broken) ≡ false
-break_is event broken =
-    let reason = has_float (reason_data event broken.reason broken.earlier) in
-    both (has_float (event_data event)) (reason || false) (event_is event) (both reason false (reason_is event broken.reason broken.earlier) refl)
+why_is : (own : List ℕ) (event : Event) (reason : Option Reason) (earlier : Option ℕ) → has_float (why_data own event reason earlier) ≡ false
+why_is own event None earlier = both (has_float (numbers_data own)) false (numbers_are own) refl
+why_is own event (Some reason) earlier = reason_is event reason earlier
 
-input_is : (spec : RoomSpec) (event : Event) → has_float (input_data spec event) ≡ false
-input_is spec (events.Write p v) = refl
-input_is spec (events.Snap p row) = refl
-input_is spec (events.Decide p v) = refl
+break_is : (own : List ℕ) (event : Event) (broken : LineBreak) → has_float (break_data own event broken) ≡ false
+break_is own event broken =
+    let reason = has_float (why_data own event broken.reason broken.earlier) in
+    both (has_float (event_data event)) (reason || false) (event_is event) (both reason false (why_is own event broken.reason broken.earlier) refl)
 
-excess_is : (spec : RoomSpec) (line : ℕ) (event : Event) (before : List Decision) → has_float (excess_data spec line event before) ≡ false
-excess_is spec line event before =
+input_is : (inputs : List ℕ) (event : Event) → has_float (input_data inputs event) ≡ false
+input_is inputs (events.Write p v) = refl
+input_is inputs (events.Snap p row) = refl
+input_is inputs (events.Decide p v) = refl
+
+excess_is : (inputs : List ℕ) (line : ℕ) (event : Event) (before : List Decision) → has_float (excess_data inputs line event before) ≡ false
+excess_is inputs line event before =
     let of_event = has_float (event_data event) in
-    let input = has_float (input_data spec event) in
+    let input = has_float (input_data inputs event) in
     both (has_float (decisions_data before)) (of_event || (input || false)) (items_are decision_data (λ one. refl) before)
-    (both of_event (input || false) (event_is event) (both input false (input_is spec event) refl))
+    (both of_event (input || false) (event_is event) (both input false (input_is inputs event) refl))
 
 kept_is : (most : Option ℕ) → has_float (kept_data most) ≡ false
 kept_is None = refl
@@ -82,11 +85,11 @@ task_is reported (Some tasks.Holds) it is = ap has_float is ∙ kept_is reported
 task_is reported (Some (tasks.Broken line)) it is =
     let why = is.2 in
     let exceeds = is.3 in
-    ap has_float is.4 ∙ both (has_float why) false (ap has_float exceeds.is ∙ excess_is reported.spec line exceeds.event exceeds.before) refl
+    ap has_float is.4 ∙ both (has_float why) false (ap has_float exceeds.is ∙ excess_is (given_inputs reported.spec) line exceeds.event exceeds.before) refl
 
 pub room_is : (reported : ReportedRoom) (verdict : Verdict) (task : Option TaskVerdict) (it : Data) → IsRoomData reported verdict task it → has_float it ≡ false
 room_is reported Run task it is = ap has_float is.2 ∙ both (has_float is.0) false (task_is reported task is.0 is.1) refl
-room_is reported (Broken line) task it is = ap has_float is.2 ∙ both (has_float is.0) false (ap has_float is.1.is ∙ break_is is.1.event is.1.broken) refl
+room_is reported (Broken line) task it is = ap has_float is.2 ∙ both (has_float is.0) false (ap has_float is.1.is ∙ break_is reported.spec.own is.1.event is.1.broken) refl
 
 -- ---- decisions
 

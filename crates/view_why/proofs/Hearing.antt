@@ -15,6 +15,7 @@ use Rattle.room_files.specs.Inputs.{BeginsWithBlock, MayLackMemory, blocks_from,
 use Rattle.room_files.specs.declared.fault.InputFault.{InputFault}
 use Rattle.room_files.specs.declared.fault.TextFault.TheVariants.{NoRoom}
 use Rattle.room_files.specs.declared.fault.InputFault.TheVariants.{BadInput, Memory}
+use Rattle.room_files.specs.declared.kinds.Kinds.TheVariants.{All}
 
 pub known : (rooms : List RoomSpec) (line : ℕ) (said : Result (List ℕ × Event) LineFault) (read : List ℕ × Event) → said ≡ Ok read → has_room read.0 rooms ≡ true
     → of_known_room rooms line said ≡ Ok (record { name = read.0; event = read.1; line = line })
@@ -30,7 +31,7 @@ has_some name rooms has none = let bad = sym has ∙ ap (has_room name) none in 
 -- ---- want of memory
 
 begins_by : (later : Setup → List ℕ → Result (Setup × List ℕ) FaultAt) (input : List ℕ) (is_events : Bool) (found : Option ℕ) (setup : Setup) (rest : List ℕ)
-    → (if is_events then Ok (pass_lines 1 no_blocks, later_lines input) else next_block later no_blocks input found) ≡ Ok (setup, rest) → setup.rooms ≢ [] → (is_events ≡ false) × IsSome found
+    → (if is_events then Ok (pass_lines 1 no_blocks, later_lines input) else next_block later All no_blocks input found) ≡ Ok (setup, rest) → setup.rooms ≢ [] → (is_events ≡ false) × IsSome found
 begins_by later input true found setup rest is some = absurd (some (ap (λ (r : Result (Setup × List ℕ) FaultAt). rooms_read r) (sym is)))
   where
     rooms_read : Result (Setup × List ℕ) FaultAt → List RoomSpec
@@ -40,12 +41,12 @@ begins_by later input false None setup rest is some = absurd cc
 begins_by later input false (Some len) setup rest is some = (refl, refl)
 
 -- where blocks opened rooms the input begins with one
-begins : (input : List ℕ) (setup : Setup) (rest : List ℕ) → blocks_in input ≡ Ok (setup, rest) → setup.rooms ≢ [] → BeginsWithBlock input
+begins : (input : List ℕ) (setup : Setup) (rest : List ℕ) → blocks_in All input ≡ Ok (setup, rest) → setup.rooms ≢ [] → BeginsWithBlock input
 unfolding blocks_from
-begins input setup rest is some = begins_by (blocks_from (length input)) input (bytes_eq (first_line input) (codes "events")) (block_len input) setup rest is some
+begins input setup rest is some = begins_by (blocks_from All (length input)) input (bytes_eq (first_line input) (codes "events")) (block_len input) setup rest is some
 
 -- a fault of the events is that of the whole input
-pub events_fault : (input : List ℕ) (setup : Setup) (rest : List ℕ) (fault : InputFault) → blocks_in input ≡ Ok (setup, rest) → IsFaultOr (setup.rooms ≢ []) (fed_from setup.rooms [] setup.line (text_lines rest)) fault
-    → IsFaultOr (MayLackMemory input) (input_says input) fault
+pub events_fault : (input : List ℕ) (setup : Setup) (rest : List ℕ) (fault : InputFault) → blocks_in All input ≡ Ok (setup, rest) → IsFaultOr (setup.rooms ≢ []) (fed_from setup.rooms [] setup.line (text_lines rest)) fault
+    → IsFaultOr (MayLackMemory All input) (input_says All input) fault
 events_fault input setup rest Memory is some = inl (begins input setup rest is some)
 events_fault input setup rest (BadInput line fault) is bad = rw (is, bad) refl

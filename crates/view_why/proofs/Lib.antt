@@ -1,3 +1,4 @@
+mod Allowing
 mod Behind
 mod Breaking
 mod Deciding
@@ -5,8 +6,11 @@ mod Explaining
 mod Floats
 mod Hearing
 mod KeptRooms
+mod OrdinaryRooms
+mod Owning
 mod Reasoning
 mod RoomLists
 mod RoomObjects
 mod Running
 mod Reporting
+mod WorkedReductions

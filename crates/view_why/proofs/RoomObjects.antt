@@ -5,10 +5,9 @@ use Rattle.std.specs.declared.alloc.AllocError.{AllocError}
 use Rattle.serde_json.specs.Data.{Data, null}
 use Rattle.serde_json.specs.View.{view}
 use Rattle.serde_json.specs.declared.value.Value.{Value}
-use Rattle.room_spec.specs.Rooms.{RoomSpec}
 use Rattle.transcript.specs.declared.event.Event.{Event}
 use Rattle.view_why.specs.Json.{IsBreakData, IsExcessData, break_data, excess_data, kept_data, room_data, task_data}
-use Rattle.view_why.specs.Reported.{AreDecidedBefore, IsExcess, IsLineBreak, ReportedRoom}
+use Rattle.view_why.specs.Reported.{AreDecidedBefore, IsExcess, IsLineBreak, ReportedRoom, given_inputs}
 use Rattle.view_why.specs.Why.{IsRoomData, IsTaskData, task_verdict_of, verdict_of}
 use Rattle.view_why.specs.declared.reported.Decision.{Decision}
 use Rattle.view_why.specs.declared.reported.Excess.{Excess}
@@ -23,16 +22,17 @@ holds_of : (P : Data → Type 0) (d : Data) (result : Made) → P d → IfOk res
 holds_of P d (Ok value) holds is = subst P (sym is) holds
 holds_of P d (Err fault) holds is = tt
 
-pub break_of : (reported : ReportedRoom) (broken : LineBreak) (event : Event) (result : Made) → IsLineBreak reported broken → slice_get reported.events broken.at ≡ Some event → IfOk result (λ value. view value ≡ break_data event broken)
+pub break_of : (reported : ReportedRoom) (own : List ℕ) (broken : LineBreak) (event : Event) (result : Made) → IsLineBreak reported broken → own ≡ reported.spec.own → slice_get reported.events broken.at ≡ Some event → IfOk result (λ value. view value ≡ break_data own event broken)
     → IfOk result (λ value. IsBreakData reported broken.line (view value))
-break_of reported broken event result breaks there is =
-    holds_of (IsBreakData reported broken.line) (break_data event broken) result (record { broken = broken; breaks = breaks; line_is = refl; event = event; there = there; is = refl }) is
+break_of reported own broken event result breaks own_is there is =
+    holds_of (IsBreakData reported broken.line) (break_data own event broken) result
+    (record { broken = broken; breaks = breaks; line_is = refl; event = event; there = there; is = ap (λ (inputs : List ℕ). break_data inputs event broken) own_is }) is
 
-pub excess_of : (reported : ReportedRoom) (spec : RoomSpec) (excess : Excess) (event : Event) (before : List Decision) (result : Made) → IsExcess reported excess → spec ≡ reported.spec → slice_get reported.events excess.at ≡ Some event → AreDecidedBefore reported excess.at before
-    → IfOk result (λ value. view value ≡ excess_data spec excess.line event before) → IfOk result (λ value. IsExcessData reported excess.line (view value))
-excess_of reported spec excess event before result exceeds own there decided is =
-    holds_of (IsExcessData reported excess.line) (excess_data spec excess.line event before) result
-    (record { excess = excess; exceeds = exceeds; line_is = refl; event = event; there = there; before = before; decided = decided; is = ap (λ (s : RoomSpec). excess_data s excess.line event before) own }) is
+pub excess_of : (reported : ReportedRoom) (inputs : List ℕ) (excess : Excess) (event : Event) (before : List Decision) (result : Made) → IsExcess reported excess → inputs ≡ given_inputs reported.spec → slice_get reported.events excess.at ≡ Some event → AreDecidedBefore reported excess.at before
+    → IfOk result (λ value. view value ≡ excess_data inputs excess.line event before) → IfOk result (λ value. IsExcessData reported excess.line (view value))
+excess_of reported inputs excess event before result exceeds own there decided is =
+    holds_of (IsExcessData reported excess.line) (excess_data inputs excess.line event before) result
+    (record { excess = excess; exceeds = exceeds; line_is = refl; event = event; there = there; before = before; decided = decided; is = ap (λ (i : List ℕ). excess_data i excess.line event before) own }) is
 
 kept_by : (reported : ReportedRoom) (task : Option ℕ) (it : Data) → it ≡ kept_data reported.spec.task → IsTaskData reported (task_verdict_of task (Ok tt)) it
 kept_by reported None it is = is

@@ -2,7 +2,8 @@
 use Rattle.std.proofs.Common.{◌≡◌, ◌∙◌, ◌+◌, ◌&&◌, ℕ, Bool, true, false, List, [], ◌++◌, Option, Some, None, refl, sym, ap, subst}
 use Rattle.std.specs.Prelude.{IfSome, slice_get}
 use Rattle.std.proofs.lemmas.List.{append-nil, append_assoc}
-use Rattle.room_spec.specs.Rooms.{RoomSpec}
+use Rattle.std.proofs.lemmas.Option.{get_or_from_slice_get, slice_get_within}
+use Rattle.room_spec.specs.Rooms.{RoomSpec, is_reduction}
 use Rattle.history_checker.specs.Verdicts.{FedEvent, IsTaskAnswer, IsVerdict, fed_to}
 use Rattle.history_checker.specs.declared.verdict.Verdict.{Verdict}
 use Rattle.history_checker.specs.declared.verdict.Verdict.TheVariants.{Run, Broken}
@@ -11,8 +12,14 @@ use Rattle.history_checker.specs.declared.verdict.TaskVerdict.TheVariants as tas
 use Rattle.room_files.specs.Reports.{task_line, verdict_line}
 use Rattle.room_files.specs.Verdicts.{is_well}
 use Rattle.view_why.specs.Reported.{ReportedRoom}
-use Rattle.view_why.specs.Why.{IsReasonFor, IsRoomSaid}
+use Rattle.view_why.specs.Why.{AreOrdinary, IsReasonFor, IsRoomSaid}
+use Rattle.view_why.specs.Verdicts.{IsVerdictBy}
 use Rattle.view_why.proofs.Explaining.{SoFar, one_more}
+use Rattle.view_why.proofs.Owning.{judged_as_is}
+
+-- one of rooms of which none is a reduction
+pub one_ordinary : (rooms : List RoomSpec) (index : ℕ) (spec : RoomSpec) → AreOrdinary rooms → slice_get rooms index ≡ Some spec → is_reduction spec ≡ false
+one_ordinary rooms index spec ordinary there = subst (λ (room : RoomSpec). is_reduction room ≡ false) (get_or_from_slice_get rooms index spec spec there) (ordinary index spec (slice_get_within rooms index spec there))
 
 -- of a room that is a run and keeps its task there is nothing to explain
 nothing_to_say : (reported : ReportedRoom) (verdict : Verdict) (task : Option TaskVerdict) → is_well verdict task ≡ true → IsReasonFor reported verdict task []
@@ -22,13 +29,13 @@ nothing_to_say reported Run (Some (tasks.Broken line)) well = absurd cc
 nothing_to_say reported (Broken line) task well = absurd cc
 
 -- what is written of it
-pub run_said : (spec : RoomSpec) (fed : List FedEvent) (verdict : Verdict) (task : Option TaskVerdict) (name old new : List ℕ) → is_well verdict task ≡ true → IsVerdict spec fed verdict → IsTaskAnswer spec fed task → name ≡ spec.name
+pub run_said : (spec : RoomSpec) (fed : List FedEvent) (verdict : Verdict) (task : Option TaskVerdict) (name old new : List ℕ) → is_well verdict task ≡ true → is_reduction spec ≡ false → IsVerdict spec fed verdict → IsTaskAnswer spec fed task → name ≡ spec.name
     → new ≡ (old ++ verdict_line name verdict) ++ task_line name verdict task → IsRoomSaid false spec fed old new true
-run_said spec fed verdict task name old new well judged answered named written = record {
+run_said spec fed verdict task name old new well ordinary judged answered named written = record {
   one = record { judged = record { room = spec; verdict = verdict; task = task }; notes = [] };
   room = refl;
-  verdict = judged;
-  task = answered;
+  verdict = subst (λ (reduction : Bool). IsVerdictBy reduction spec fed verdict) (sym ordinary) judged;
+  task = subst (λ (room : RoomSpec). IsTaskAnswer room fed task) (sym (judged_as_is spec ordinary)) answered;
   because = nothing_to_say _ verdict task well;
   written = written ∙ append_assoc old (verdict_line name verdict) (task_line name verdict task) ∙ ap (λ (n : List ℕ). old ++ (verdict_line n verdict ++ task_line n verdict task)) named
       ∙ ap (λ (line : List ℕ). old ++ line) (sym (append-nil (verdict_line spec.name verdict ++ task_line spec.name verdict task)));

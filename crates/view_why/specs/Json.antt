@@ -3,8 +3,7 @@ use Rattle.std.specs.Prelude.{◌≡◌, ℕ, ◌==◌, List, map, Option, Some,
 use Rattle.std.specs.List.{list_any}
 use Rattle.serde_json.specs.Data.{Data, array, boolean, member, no_members, null, number, object, string, unsigned}
 use Rattle.serde_json.specs.View.{items_of}
-use Rattle.json_lines.specs.Values.{entry_data, event_data}
-use Rattle.room_spec.specs.Rooms.{RoomSpec}
+use Rattle.json_lines.specs.Values.{entry_data, event_data, numbers_data}
 use Rattle.protocol_lang.specs.declared.meaning.Action.{Action}
 use Rattle.protocol_lang.specs.declared.meaning.Action.TheVariants as actions
 use Rattle.history_checker.specs.declared.process.Turn.{Turn}
@@ -14,7 +13,7 @@ use Rattle.history_checker.specs.declared.reason.Reason.{Reason}
 use Rattle.history_checker.specs.declared.reason.Reason.TheVariants.{NoProcess, OtherLength, OutOfTurn, OtherAction, WrongEntry, TooManyWrites}
 use Rattle.transcript.specs.declared.event.Event.{Event}
 use Rattle.transcript.specs.declared.event.Event.TheVariants as events
-use Rattle.view_why.specs.Reported.{AreDecidedBefore, IsExcess, IsLineBreak, ReportedRoom}
+use Rattle.view_why.specs.Reported.{AreDecidedBefore, IsExcess, IsLineBreak, ReportedRoom, given_inputs}
 use Rattle.view_why.specs.Words.{shown_of}
 use Rattle.view_why.specs.declared.reported.Decision.{Decision}
 use Rattle.view_why.specs.declared.reported.Excess.{Excess}
@@ -61,10 +60,19 @@ reason_data event (WrongEntry q written) earlier =
     (member (codes "shown") (entry_data (shown_of event q)) no_members))))
 reason_data event TooManyWrites earlier = kind_data (codes "rounds")
 
+-- from none of these inputs it may come
+abbrev pub no_input_data : List ℕ → Data
+no_input_data own = object (member (codes "inputs") (numbers_data own) (member (codes "kind") (string (codes "inputs")) no_members))
+
+-- why an event may not come in a room whose simulators have these inputs of their own
+abbrev pub why_data : List ℕ → Event → Option Reason → Option ℕ → Data
+why_data own event None earlier = no_input_data own
+why_data own event (Some reason) earlier = reason_data event reason earlier
+
 -- the line that breaks a run, its event, and why it may not come
-abbrev pub break_data : Event → LineBreak → Data
-break_data event broken =
-    object (member (codes "event") (event_data event) (member (codes "line") (number (unsigned broken.line)) (member (codes "reason") (reason_data event broken.reason broken.earlier) no_members)))
+abbrev pub break_data : List ℕ → Event → LineBreak → Data
+break_data own event broken =
+    object (member (codes "event") (event_data event) (member (codes "line") (number (unsigned broken.line)) (member (codes "reason") (why_data own event broken.reason broken.earlier) no_members)))
 
 -- the first line that breaks the room's run
 pub record IsBreakData (reported : ReportedRoom) (line : ℕ) (it : Data) : Type 0 where
@@ -73,7 +81,7 @@ pub record IsBreakData (reported : ReportedRoom) (line : ℕ) (it : Data) : Type
   pub line_is : broken.line ≡ line
   pub event : Event
   pub there : slice_get reported.events broken.at ≡ Some event
-  pub is : it ≡ break_data event broken
+  pub is : it ≡ break_data reported.spec.own event broken
 
 -- ---- why a task doesn't allow a decision
 
@@ -83,16 +91,16 @@ decision_data one = object (member (codes "line") (number (unsigned one.line)) (
 abbrev pub decisions_data : List Decision → Data
 decisions_data all = array (items_of (map decision_data all))
 
--- whether the value that the event decides is some process's input
-abbrev pub input_data : RoomSpec → Event → Data
-input_data spec (events.Write p v) = null
-input_data spec (events.Snap p row) = null
-input_data spec (events.Decide p v) = boolean (list_any (λ input. input == v) spec.inputs)
+-- whether the value that the event decides is one of these inputs
+abbrev pub input_data : List ℕ → Event → Data
+input_data inputs (events.Write p v) = null
+input_data inputs (events.Snap p row) = null
+input_data inputs (events.Decide p v) = boolean (list_any (λ input. input == v) inputs)
 
 -- the line that breaks a task, its event, whether its value is an input, and the different values that were decided before
-abbrev pub excess_data : RoomSpec → ℕ → Event → List Decision → Data
-excess_data spec line event before =
-    object (member (codes "decided") (decisions_data before) (member (codes "event") (event_data event) (member (codes "input") (input_data spec event) (member (codes "line") (number (unsigned line)) no_members))))
+abbrev pub excess_data : List ℕ → ℕ → Event → List Decision → Data
+excess_data inputs line event before =
+    object (member (codes "decided") (decisions_data before) (member (codes "event") (event_data event) (member (codes "input") (input_data inputs event) (member (codes "line") (number (unsigned line)) no_members))))
 
 -- the first line that breaks the room's task
 pub record IsExcessData (reported : ReportedRoom) (line : ℕ) (it : Data) : Type 0 where
@@ -103,7 +111,7 @@ pub record IsExcessData (reported : ReportedRoom) (line : ℕ) (it : Data) : Typ
   pub there : slice_get reported.events excess.at ≡ Some event
   pub before : List Decision
   pub decided : AreDecidedBefore reported excess.at before
-  pub is : it ≡ excess_data reported.spec line event before
+  pub is : it ≡ excess_data (given_inputs reported.spec) line event before
 
 -- ---- a room
 

@@ -5,6 +5,7 @@ use Rattle.serde_json.specs.Data.{Data, member, no_members, null, number, object
 use Rattle.json_lines.specs.Lines.{json_line}
 use Rattle.json_lines.specs.Values.{event_data, row_data}
 use Rattle.protocol_lang.specs.Trees.{Tree}
+use Rattle.room_spec.specs.Rooms.{is_reduction}
 use Rattle.transcript.specs.Grammar.{event_line}
 use Rattle.transcript.specs.Runs.{IsRun}
 use Rattle.transcript.specs.Tasks.{KeepsOwnTask}
@@ -17,6 +18,7 @@ use Rattle.room_files.specs.Inputs.{input_says}
 use Rattle.room_files.specs.Verdicts.{outcome_if}
 use Rattle.room_files.specs.declared.outcome.Outcome.{Outcome}
 use Rattle.room_files.specs.declared.outcome.Outcome.TheVariants.{AllWell, SomeRefused}
+use Rattle.room_files.specs.declared.kinds.Kinds.TheVariants.{All}
 use Rattle.fault_text.specs.Lines.{indented_all}
 use Rattle.view_why.specs.Reported.{ReportedRoom}
 use Rattle.view_why.specs.Why.{IsExplanation, reported_of}
@@ -89,9 +91,9 @@ pub record IsDisallowedText (json : Bool) (lines : List Tree) (reported : Report
   pub text_is : text ≡ disallowed_in json reported.spec.name event one
   pub kept_is : kept ≡ false
 
--- the room's events are a run that keeps its own task
+-- the room is an ordinary one, and its events are a run that keeps its own task
 abbrev pub IsWellRoom : ReportedRoom → Type 0
-IsWellRoom reported = IsRun reported.spec reported.events × KeepsOwnTask reported.spec reported.events
+IsWellRoom reported = (is_reduction reported.spec ≡ false) × IsRun reported.spec reported.events × KeepsOwnTask reported.spec reported.events
 
 -- of any other room nothing is said
 pub record IsNoText (reported : ReportedRoom) (kept : Bool) (text : List ℕ) : Type 0 where
@@ -123,11 +125,11 @@ abbrev pub with_kept : Outcome → Bool → Outcome
 with_kept AllWell kept = outcome_if kept
 with_kept SomeRefused kept = SomeRefused
 
--- What `why` says of an input, and then of each room whose events are a run that keeps its own task whether the run keeps this one.
+-- What `why` says of an input, and then of each ordinary room whose events are a run that keeps its own task whether the run keeps this one.
 pub record IsKeptExplanation (json : Bool) (lines : List Tree) (input : List ℕ) (outcome : Outcome) (output : List ℕ) : Type 0 where
   pub setup : Setup
   pub fed : List FedEvent
-  pub says : input_says input ≡ Ok (setup, fed)
+  pub says : input_says All input ≡ Ok (setup, fed)
   pub first : List ℕ
   pub first_outcome : Outcome
   pub explained : IsExplanation json input setup.rooms setup.refused fed first_outcome first

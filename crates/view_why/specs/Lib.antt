@@ -1,5 +1,7 @@
+pub mod Allowing
 pub mod Json
 pub mod Keeping
 pub mod Reported
+pub mod Verdicts
 pub mod Why
 pub mod Words

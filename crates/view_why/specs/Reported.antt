@@ -1,7 +1,9 @@
 -- What a transcript says of rooms, the line that breaks a room's run, and the line that breaks its task.
-use Rattle.std.specs.Prelude.{◌≡◌, ℕ, List, map, take, Option, Some, None, slice_get}
+use Rattle.std.specs.Prelude.{◌≡◌, ℕ, Bool, true, false, List, map, take, Option, Some, None, slice_get, if◌then◌else◌}
 use Rattle.std.specs.List.{All, Contains}
-use Rattle.room_spec.specs.Rooms.{RoomSpec}
+use Rattle.room_spec.specs.Rooms.{RoomSpec, is_reduction}
+use Rattle.transcript.specs.Reductions.{IsFirstBreakOf, IsRunOf}
+use Rattle.transcript.specs.Runs.{IsRun}
 use Rattle.transcript.specs.declared.event.Event.{Event}
 use Rattle.history_checker.specs.Verdicts.{FedEvent, events_of, fed_to, names_of}
 use Rattle.history_checker.specs.Reasons.{IsBreak}
@@ -18,28 +20,54 @@ pub record ReportedRoom : Type 0 where
   pub events : List Event
   pub lines : List ℕ
 
+-- ---- runs
+
+-- the events are a run of a room, which is a reduction or isn't
+abbrev pub IsRunBy : Bool → RoomSpec → List Event → Type 0
+IsRunBy false spec events = IsRun spec events
+IsRunBy true spec events = IsRunOf spec events
+
+-- the events are a run of the room: of a reduction from some inputs of the simulators' own
+abbrev pub IsRunIn : RoomSpec → List Event → Type 0
+IsRunIn spec events = IsRunBy (is_reduction spec) spec events
+
 -- the line of the write that a reason rests on, if it rests on one
-abbrev pub line_of_write : List ℕ → Reason → Option ℕ
-line_of_write lines NoProcess = None
-line_of_write lines OtherLength = None
-line_of_write lines (OutOfTurn next) = None
-line_of_write lines (OtherAction asked) = None
-line_of_write lines (WrongEntry q None) = None
-line_of_write lines (WrongEntry q (Some last)) = slice_get lines last.at
-line_of_write lines TooManyWrites = None
+abbrev pub line_of_write : List ℕ → Option Reason → Option ℕ
+line_of_write lines None = None
+line_of_write lines (Some NoProcess) = None
+line_of_write lines (Some OtherLength) = None
+line_of_write lines (Some (OutOfTurn next)) = None
+line_of_write lines (Some (OtherAction asked)) = None
+line_of_write lines (Some (WrongEntry q None)) = None
+line_of_write lines (Some (WrongEntry q (Some last))) = slice_get lines last.at
+line_of_write lines (Some TooManyWrites) = None
+
+-- The event of this index is the first that may not follow those before it: in an ordinary room for this reason, in a reduction, where
+-- none is named, because it may follow them from none of the simulators' own inputs.
+abbrev pub IsBreakFor : RoomSpec → List Event → ℕ → Option Reason → Type 0
+IsBreakFor spec events at None = (is_reduction spec ≡ true) × IsFirstBreakOf spec events at
+IsBreakFor spec events at (Some reason) = (is_reduction spec ≡ false) × IsBreak spec events (record { at = at; reason = reason })
 
 -- the event of this line is the first that may not follow those before it, for this reason, which rests on that line
 pub record IsLineBreak (reported : ReportedRoom) (broken : LineBreak) : Type 0 where
-  pub first : IsBreak reported.spec reported.events (record { at = broken.at; reason = broken.reason })
+  pub first : IsBreakFor reported.spec reported.events broken.at broken.reason
   pub line : slice_get reported.lines broken.at ≡ Some broken.line
   pub earlier : line_of_write reported.lines broken.reason ≡ broken.earlier
 
 -- ---- decisions that a task doesn't allow
 
+-- the inputs that the room's block gives: of the processes, or in a reduction of the simulators
+abbrev pub given_inputs : RoomSpec → List ℕ
+given_inputs spec = if is_reduction spec then spec.own else spec.inputs
+
+-- the room by whose inputs its task is judged
+abbrev pub judged_room : RoomSpec → RoomSpec
+judged_room spec = record spec { inputs = given_inputs spec }
+
 -- the event on this line is the first that decides what the room's task doesn't allow, which allows this many values
 pub record IsExcess (reported : ReportedRoom) (excess : Excess) : Type 0 where
   pub task : reported.spec.task ≡ Some excess.most
-  pub first : IsFirstExcess reported.spec excess.most reported.events excess.at
+  pub first : IsFirstExcess (judged_room reported.spec) excess.most reported.events excess.at
   pub line : slice_get reported.lines excess.at ≡ Some excess.line
 
 -- an event on this line decides the value, and no event before it does

@@ -1,10 +1,10 @@
 -- What is said of rooms that are no run or break their task.
 use Rattle.std.specs.Prelude.{◌≡◌, ℕ, Bool, true, false, List, [], ◌∷◌, ◌++◌, map, Option, Some, None, Result, Ok, Err, slice_get}
 use Rattle.std.specs.List.{All, concat, flat_map}
-use Rattle.room_spec.specs.Rooms.{RoomSpec}
+use Rattle.room_spec.specs.Rooms.{RoomSpec, is_reduction}
 use Rattle.transcript.specs.Grammar.{event_line}
 use Rattle.transcript.specs.declared.event.Event.{Event}
-use Rattle.history_checker.specs.Verdicts.{FedEvent, IsTaskAnswer, IsVerdict, events_of, fed_to}
+use Rattle.history_checker.specs.Verdicts.{FedEvent, events_of, fed_to}
 use Rattle.serde_json.specs.Data.{Data, null}
 use Rattle.history_checker.specs.declared.verdict.Verdict.{Verdict}
 use Rattle.history_checker.specs.declared.verdict.Verdict.TheVariants.{Run, Broken}
@@ -13,14 +13,16 @@ use Rattle.history_checker.specs.declared.verdict.TaskVerdict.TheVariants as tas
 use Rattle.room_files.specs.Blocks.{Setup}
 use Rattle.room_files.specs.Inputs.{input_says}
 use Rattle.room_files.specs.Reports.{task_line, verdict_line}
-use Rattle.room_files.specs.Verdicts.{Judged, IsJustified, IsOutput, judged_line, is_well}
+use Rattle.room_files.specs.Verdicts.{Judged, IsOutput, judged_line, is_well, outcome_of}
 use Rattle.room_files.specs.declared.outcome.Outcome.{Outcome}
+use Rattle.room_files.specs.declared.kinds.Kinds.TheVariants as kinds
 use Rattle.fault_text.specs.Lines.{indented_all}
 use Rattle.fault_text.specs.Refusals.{refusal_line, said_refusals}
 use Rattle.json_lines.specs.Lines.{json_line}
 use Rattle.view_why.specs.Json.{IsBreakData, IsExcessData, kept_data, room_data, task_data}
 use Rattle.view_why.specs.Reported.{ReportedRoom, AreDecidedBefore, AreReported, IsExcess, IsLineBreak, lines_of, specs_of}
-use Rattle.view_why.specs.Words.{excess_words, reason_words}
+use Rattle.view_why.specs.Verdicts.{IsJustifiedIn, IsTaskAnswerIn, IsVerdictIn}
+use Rattle.view_why.specs.Words.{break_words, excess_words}
 use Rattle.fault_text.specs.declared.refusals.RefusedBlock.{RefusedBlock}
 use Rattle.view_why.specs.declared.reported.Decision.{Decision}
 use Rattle.view_why.specs.declared.reported.Excess.{Excess}
@@ -29,8 +31,8 @@ use Rattle.view_why.specs.declared.reported.LineBreak.{LineBreak}
 -- ---- the reason
 
 -- an event's line, and why it may not come
-abbrev pub notes_on : List ℕ → Event → LineBreak → List (List ℕ)
-notes_on name event broken = event_line name event ∷ reason_words event broken.reason broken.earlier ∷ []
+abbrev pub notes_on : RoomSpec → Event → LineBreak → List (List ℕ)
+notes_on spec event broken = event_line spec.name event ∷ break_words spec.own event broken.reason broken.earlier ∷ []
 
 -- the line that breaks the run of a room, and the reason
 pub record IsBecause (reported : ReportedRoom) (line : ℕ) (notes : List (List ℕ)) : Type 0 where
@@ -39,7 +41,7 @@ pub record IsBecause (reported : ReportedRoom) (line : ℕ) (notes : List (List 
   pub line_is : broken.line ≡ line
   pub event : Event
   pub there : slice_get reported.events broken.at ≡ Some event
-  pub notes_are : notes ≡ notes_on reported.spec.name event broken
+  pub notes_are : notes ≡ notes_on reported.spec event broken
 
 -- the line that breaks the task of a room, and why: what it decides, and which line decided each other value before it
 pub record IsExcessSaid (reported : ReportedRoom) (line : ℕ) (notes : List (List ℕ)) : Type 0 where
@@ -103,9 +105,9 @@ pub record Explained : Type 0 where
 abbrev pub reported_of : RoomSpec → List FedEvent → ReportedRoom
 reported_of room fed = record { spec = room; events = events_of (fed_to room.name fed); lines = lines_of (fed_to room.name fed) }
 
--- what `check` answers on the room, and why it is no run, or breaks its task
+-- the verdicts on the room, for an ordinary room those of `check`, and why it is no run, or breaks its task
 abbrev pub IsExplained : Bool → List FedEvent → Explained → Type 0
-IsExplained json fed one = IsJustified fed one.judged × IsReasonIn json (reported_of one.judged.room fed) one.judged.verdict one.judged.task one.notes
+IsExplained json fed one = IsJustifiedIn fed one.judged × IsReasonIn json (reported_of one.judged.room fed) one.judged.verdict one.judged.task one.notes
 
 -- the verdict and what is said of it; as JSON all is in the line
 abbrev pub said_lines : Bool → RoomSpec → Verdict → Option TaskVerdict → List (List ℕ) → List ℕ
@@ -125,8 +127,8 @@ IsSaid json reported reason excess old new =
 pub record IsRoomSaid (json : Bool) (spec : RoomSpec) (fed : List FedEvent) (old new : List ℕ) (well : Bool) : Type 0 where
   pub one : Explained
   pub room : one.judged.room ≡ spec
-  pub verdict : IsVerdict spec fed one.judged.verdict
-  pub task : IsTaskAnswer spec fed one.judged.task
+  pub verdict : IsVerdictIn spec fed one.judged.verdict
+  pub task : IsTaskAnswerIn spec fed one.judged.task
   pub because : IsReasonIn json (record { spec = spec; events = events_of fed; lines = lines_of fed }) one.judged.verdict one.judged.task one.notes
   pub written : new ≡ old ++ explained_lines json one
   pub well_is : well ≡ is_well one.judged.verdict one.judged.task
@@ -136,8 +138,12 @@ abbrev pub refusals_shown : Bool → List ℕ → List RefusedBlock → List ℕ
 refusals_shown false input refusals = said_refusals input refusals
 refusals_shown true input refusals = []
 
--- In text, the line of each refused block of the input, with what is said of it; and what `check` answers on each room, in order, each with
--- the reason after it. As JSON, an object on a line for each room.
+-- none of the rooms is a reduction
+abbrev pub AreOrdinary : List RoomSpec → Type 0
+AreOrdinary rooms = All (λ room. is_reduction room ≡ false) rooms
+
+-- In text, the line of each refused block of the input, with what is said of it; and the verdicts on each room, in order, each with
+-- the reason after them. As JSON, an object on a line for each room.
 pub record IsExplanation (json : Bool) (input : List ℕ) (rooms : List RoomSpec) (refused : List ℕ) (fed : List FedEvent) (outcome : Outcome) (output : List ℕ) : Type 0 where
   pub refusals : List RefusedBlock
   pub refused_are : refused ≡ flat_map refusal_line refusals
@@ -145,21 +151,24 @@ pub record IsExplanation (json : Bool) (input : List ℕ) (rooms : List RoomSpec
   pub each_room : map (λ one. one.judged.room) all ≡ rooms
   pub explained : All (IsExplained json fed) all
   pub output_is : output ≡ refusals_shown json input refusals ++ flat_map (explained_lines json) all
-  -- in text it is, without the indented lines, what `check` writes; and its outcome is that of `check`
-  pub checked : IsOutput rooms refused fed outcome (refused ++ flat_map judged_line (map (λ one. one.judged) all))
+  -- all is well if no block was refused, each room's events are a run of it, and no task is broken
+  pub outcome_is : outcome ≡ outcome_of refused (map (λ one. one.judged) all)
+  -- If no room is a reduction, in text it is, without the indented lines, what `check` writes, and its outcome is that of `check`. Of a
+  -- reduction the lines say its own verdicts in the same form.
+  pub checked : AreOrdinary rooms → IsOutput rooms refused fed outcome (refused ++ flat_map judged_line (map (λ one. one.judged) all))
 
 -- these rooms, with what the input says of each, and these refused blocks
 pub record AreHeard (input : List ℕ) (rooms : List ReportedRoom) (refusals : List RefusedBlock) : Type 0 where
   pub setup : Setup
   pub fed : List FedEvent
-  pub says : input_says input ≡ Ok (setup, fed)
+  pub says : input_says kinds.All input ≡ Ok (setup, fed)
   pub rooms_are : specs_of rooms ≡ setup.rooms
   pub refused_are : flat_map refusal_line refusals ≡ setup.refused
   pub reported : AreReported rooms fed
 
 abbrev pub IsExplanationIn : Bool → List ℕ → Outcome → List ℕ → Type 0
 IsExplanationIn json input outcome output =
-    (setup : Setup) × (fed : List FedEvent) × (input_says input ≡ Ok (setup, fed)) × IsExplanation json input setup.rooms setup.refused fed outcome output
+    (setup : Setup) × (fed : List FedEvent) × (input_says kinds.All input ≡ Ok (setup, fed)) × IsExplanation json input setup.rooms setup.refused fed outcome output
 
 -- as text
 abbrev pub IsExplanationFor : List ℕ → Outcome → List ℕ → Type 0

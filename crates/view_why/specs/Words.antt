@@ -1,7 +1,7 @@
 -- Reasons in words.
-use Rattle.std.specs.Prelude.{ℕ, ◌==◌, List, [], ◌∷◌, ◌++◌, Option, Some, None, codes, decimal, slice_index_or, if◌then◌else◌}
+use Rattle.std.specs.Prelude.{ℕ, Bool, true, false, ◌==◌, List, [], ◌∷◌, ◌++◌, Option, Some, None, codes, decimal, slice_index_or, if◌then◌else◌}
 use Rattle.std.specs.List.{flat_map, list_any}
-use Rattle.room_spec.specs.Rooms.{RoomSpec}
+use Rattle.room_spec.specs.Rooms.{RoomSpec, is_reduction}
 use Rattle.protocol_lang.specs.declared.meaning.Action.{Action}
 use Rattle.protocol_lang.specs.declared.meaning.Action.TheVariants as actions
 use Rattle.history_checker.specs.declared.process.Turn.{Turn}
@@ -12,6 +12,7 @@ use Rattle.history_checker.specs.declared.reason.Reason.TheVariants.{NoProcess, 
 use Rattle.transcript.specs.declared.event.Event.{Event}
 use Rattle.transcript.specs.declared.event.Event.TheVariants as events
 use Rattle.transcript.specs.Runs.{process_of}
+use Rattle.view_why.specs.Reported.{given_inputs}
 use Rattle.view_why.specs.declared.reported.Decision.{Decision}
 
 -- what an event shows of process q
@@ -61,6 +62,15 @@ reason_words event (OtherAction asked) earlier = process_words (codes "the proto
 reason_words event (WrongEntry q written) earlier = shown_words q (shown_of event q) ++ lacking_words q written earlier
 reason_words event TooManyWrites earlier = process_words (codes "process") (process_of event) (codes " has made all its writes")
 
+-- from none of the simulators' own inputs, which are these, may the process of the event do this
+abbrev pub inputs_words : List ℕ → Event → List ℕ
+inputs_words own event = (codes "from none of the inputs" ++ flat_map (λ input. process_words [] input []) own) ++ process_words (codes " may process") (process_of event) (codes " do this here")
+
+-- why an event may not come in a room whose simulators have these inputs of their own
+abbrev pub break_words : List ℕ → Event → Option Reason → Option ℕ → List ℕ
+break_words own event None earlier = inputs_words own event
+break_words own event (Some reason) earlier = reason_words event reason earlier
+
 -- ---- why a task doesn't allow a decision
 
 abbrev pub decision_words : Decision → List ℕ
@@ -69,10 +79,15 @@ decision_words one = process_words (codes "line") one.line [] ++ process_words (
 abbrev pub allowed_words : ℕ → List ℕ
 allowed_words most = if most == 1 then codes "the task allows 1 value" else process_words (codes "the task allows") most (codes " values")
 
--- no process has the value as its input, or it is one too many after those that were decided before
+-- whose input a value isn't, by whether the room is a reduction
+abbrev pub no_owner_words : Bool → List ℕ
+no_owner_words false = codes "no process has this input"
+no_owner_words true = codes "no simulator has this input"
+
+-- no process has the value as its input, or in a reduction no simulator; or it is one too many after those that were decided before
 abbrev pub excess_why : RoomSpec → ℕ → ℕ → List Decision → List ℕ
 excess_why spec most v before =
-    if list_any (λ input. input == v) spec.inputs then flat_map decision_words before ++ allowed_words most else codes "no process has this input"
+    if list_any (λ input. input == v) (given_inputs spec) then flat_map decision_words before ++ allowed_words most else no_owner_words (is_reduction spec)
 
 -- why a task of this many values doesn't allow an event after these decisions
 abbrev pub excess_words : RoomSpec → ℕ → Event → List Decision → List ℕ

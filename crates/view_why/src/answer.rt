@@ -5,6 +5,7 @@ ghost use Rattle.history_checker.specs.Verdicts.{FedEvent};
 ghost use Rattle.io_text.specs.Reading.{most_bytes};
 ghost use Rattle.room_files.specs.Blocks.{IsFaultOr};
 ghost use Rattle.room_files.specs.Inputs.{MayLackMemory, input_says};
+ghost use Rattle.room_files.specs.declared.kinds.Kinds.TheVariants.{All};
 ghost use Rattle.transcript.specs.Grammar.{event_line};
 ghost use Rattle.view_why.specs.Keeping.{IsKeptExplanation};
 ghost use Rattle.view_why.specs.Reported.{AreReported, IsExcess, IsLineBreak, IsReported, specs_of};
@@ -13,9 +14,10 @@ ghost use Rattle.fault_text.specs.Refusals.{refusal_line};
 ghost use Rattle.view_why.specs.Why.{AreHeard, IsBecause, IsExcessSaid, IsExplanation, IsExplanationFor, IsExplanationIn, IsJsonExplanationFor, IsReasonFor, IsRoomSaid, IsSaid, IsTaskReason, refusals_shown, task_verdict_of, verdict_of};
 
 use crate::excess::write_excess_words;
+use crate::inputs::{own_inputs, task_inputs};
 use crate::keeping::{with_kept, write_kept};
 use crate::objects::write_object;
-use crate::reasons::write_reason;
+use crate::reasons::write_break;
 use crate::reported::{Excess, LineBreak, Reported};
 use crate::rooms::ReportedRooms;
 use crate::runs::explain_runs;
@@ -24,7 +26,7 @@ use fault_text::{Refusals, write_indented};
 use history_checker::{TaskVerdict, Verdict};
 use io_text::Text;
 use room_files::{
-    Answer, InputFault, Setup, feed_events, is_well, outcome_if, read_blocks, write_task,
+    Answer, InputFault, Kinds, Setup, feed_events, is_well, outcome_if, read_blocks, write_task,
     write_verdict,
 };
 use room_spec::Spec;
@@ -36,7 +38,7 @@ pub fn explain(alloc: Global, input: &[u8]) -> Result<Answer, InputFault>
     requires { length input.now ≤ most_bytes }
     ensures output { IfOk result (λ answer. IsExplanationFor input.now answer.outcome answer.output) }
     // Memory is allocated for a block, and for the answer to an input that has no fault.
-    ensures err { IfErr result (IsFaultOr (MayLackMemory input.now) (input_says input.now)) }
+    ensures err { IfErr result (IsFaultOr (MayLackMemory All input.now) (input_says All input.now)) }
 {
     match explain_runs(alloc, input)? {
         Some(answer) => Ok(answer),
@@ -48,12 +50,12 @@ pub fn explain(alloc: Global, input: &[u8]) -> Result<Answer, InputFault>
 pub fn explain_json(alloc: Global, input: &[u8]) -> Result<Answer, InputFault>
     requires { length input.now ≤ most_bytes }
     ensures output { IfOk result (λ answer. IsJsonExplanationFor input.now answer.outcome answer.output) }
-    ensures err { IfErr result (IsFaultOr (MayLackMemory input.now) (input_says input.now)) }
+    ensures err { IfErr result (IsFaultOr (MayLackMemory All input.now) (input_says All input.now)) }
 {
     explain_rooms(alloc, input, true)
 }
 
-/// Judges an input, and says why, as text or as JSON; and then of each room whose events are a run that keeps its own task whether the run keeps this one.
+/// Judges an input, and says why, as text or as JSON; and then of each ordinary room whose events are a run that keeps its own task whether the run keeps this one.
 pub fn explain_kept(
     alloc: Global,
     input: &[u8],
@@ -62,7 +64,7 @@ pub fn explain_kept(
 ) -> Result<Answer, InputFault>
     requires { length input.now ≤ most_bytes }
     ensures output { IfOk result (λ answer. IsKeptExplanation json task.now input.now answer.outcome answer.output) }
-    ensures err { IfErr result (IsFaultOr (MayLackMemory input.now) (input_says input.now)) }
+    ensures err { IfErr result (IsFaultOr (MayLackMemory All input.now) (input_says All input.now)) }
 {
     let (rooms, refusals) = reported_rooms(alloc, input)?;
     let Answer {
@@ -80,7 +82,7 @@ pub fn explain_kept(
 fn explain_rooms(alloc: Global, input: &[u8], json: bool) -> Result<Answer, InputFault>
     requires { length input.now ≤ most_bytes }
     ensures output { IfOk result (λ answer. IsExplanationIn json input.now answer.outcome answer.output) }
-    ensures err { IfErr result (IsFaultOr (MayLackMemory input.now) (input_says input.now)) }
+    ensures err { IfErr result (IsFaultOr (MayLackMemory All input.now) (input_says All input.now)) }
 {
     let (rooms, refusals) = reported_rooms(alloc, input)?;
     Ok(answer_of(alloc, input, json, &rooms, &refusals)?)
@@ -90,10 +92,10 @@ fn explain_rooms(alloc: Global, input: &[u8], json: bool) -> Result<Answer, Inpu
 fn reported_rooms(alloc: Global, input: &[u8]) -> Result<(ReportedRooms, Refusals), InputFault>
     requires { length input.now ≤ most_bytes }
     ensures reported { IfOk result (λ reported. AreHeard input.now reported.0 reported.1) }
-    ensures err { IfErr result (IsFaultOr (MayLackMemory input.now) (input_says input.now)) }
+    ensures err { IfErr result (IsFaultOr (MayLackMemory All input.now) (input_says All input.now)) }
 {
     let setup = Setup::new(ReportedRooms::new(alloc), Refusals::new(alloc));
-    let (setup, transcript) = read_blocks(alloc, setup, input)?;
+    let (setup, transcript) = read_blocks(alloc, Kinds::All, setup, input)?;
     let Setup {
         mut rooms,
         refused,
@@ -152,7 +154,7 @@ fn write_room(
     ensures { IfOk result (λ well. (fed : List FedEvent) → IsReported fed reported.now → IsRoomSaid json reported.now.spec fed output.old output.new well) }
 {
     let reason = reported.why();
-    let excess = reported.excess();
+    let excess = reported.excess(alloc)?;
     let verdict = verdict_of(reason);
     let task = task_verdict_of(&reported.spec, excess);
     write_said(alloc, output, json, reported, reason, excess)?;
@@ -250,8 +252,9 @@ fn write_because(
 {
     let event = reported.event(broken.at);
     write_event_line(alloc, output, reported, event)?;
+    let own = own_inputs(alloc, &reported.spec)?;
     output.put(b"    ")?;
-    write_reason(output, event, broken.reason, broken.earlier)?;
+    write_break(output, own.as_slice(), event, broken.reason, broken.earlier)?;
     output.put(b"\n")
 }
 
@@ -283,10 +286,12 @@ fn write_excess(
     let event = reported.event(excess.at);
     write_event_line(alloc, output, reported, event)?;
     let before = reported.decided_before(alloc, excess.at)?;
+    let inputs = task_inputs(alloc, &reported.spec)?;
     output.put(b"    ")?;
     write_excess_words(
         output,
         &reported.spec,
+        inputs.as_slice(),
         excess.most,
         event,
         before.as_slice(),

@@ -1,7 +1,8 @@
 //! Why a task doesn't allow a decision, in words.
 ghost use Rattle.std.specs.Prelude.{◌≡◌, ◌++◌, OnOk};
 ghost use Rattle.std.specs.List.{flat_map};
-ghost use Rattle.view_why.specs.Words.{allowed_words, decision_words, excess_why, excess_words};
+ghost use Rattle.view_why.specs.Reported.{given_inputs};
+ghost use Rattle.view_why.specs.Words.{allowed_words, decision_words, excess_why, excess_words, no_owner_words};
 
 use crate::reasons::write_of_process;
 use crate::reported::Decision;
@@ -10,20 +11,22 @@ use room_spec::Spec;
 use std::alloc::AllocError;
 use transcript::Event;
 
-/// Writes why the room's task, which allows `most` different values, doesn't allow an event after these decisions.
+/// Writes why the room's task, which allows `most` different values of these inputs, doesn't allow an event after these decisions.
 pub fn write_excess_words(
     output: &mut Text,
     spec: &Spec,
+    inputs: &[u32],
     most: u8,
     event: &Event,
     before: &[Decision],
 ) -> Result<(), AllocError>
+    requires { inputs.now ≡ given_inputs spec.now }
     ensures { OnOk result (output.new ≡ output.old ++ excess_words spec.now most event.now before.now) }
 {
     match event {
         Event::Decide { v, .. } => {
             write_of_process(output, b"decides", u64::from(*v), b"; ")?;
-            write_excess_why(output, spec, most, *v, before)
+            write_excess_why(output, spec, inputs, most, *v, before)
         }
         Event::Write { .. } => Ok(()),
         Event::Snap { .. } => Ok(()),
@@ -33,17 +36,30 @@ pub fn write_excess_words(
 fn write_excess_why(
     output: &mut Text,
     spec: &Spec,
+    inputs: &[u32],
     most: u8,
     v: u32,
     before: &[Decision],
 ) -> Result<(), AllocError>
+    requires { inputs.now ≡ given_inputs spec.now }
     ensures { OnOk result (output.new ≡ output.old ++ excess_why spec.now most v before.now) }
 {
-    if !spec.has_input(v) {
-        return output.put(b"no process has this input");
+    if !inputs.contains(&v) {
+        return write_no_owner(output, spec.is_reduction());
     }
     write_decisions(output, before)?;
     write_allowed(output, most)
+}
+
+/// Writes that no process has a value as its input, or in a reduction no simulator.
+fn write_no_owner(output: &mut Text, is_reduction: bool) -> Result<(), AllocError>
+    ensures { OnOk result (output.new ≡ output.old ++ no_owner_words is_reduction) }
+{
+    if is_reduction {
+        output.put(b"no simulator has this input")
+    } else {
+        output.put(b"no process has this input")
+    }
 }
 
 fn write_decisions(output: &mut Text, decisions: &[Decision]) -> Result<(), AllocError>

@@ -2,16 +2,16 @@
 ghost use Rattle.std.specs.Prelude.{◌≡◌, IfOk};
 ghost use Rattle.serde_json.specs.Data.{null};
 ghost use Rattle.serde_json.specs.View.{view};
-ghost use Rattle.view_why.specs.Json.{action_data, asked_data, break_data, decision_data, decisions_data, excess_data, expected_data, input_data, kept_data, kind_data, reason_data, room_data, task_data, turn_data, written_data};
+ghost use Rattle.view_why.specs.Json.{action_data, asked_data, break_data, decision_data, decisions_data, excess_data, expected_data, input_data, kept_data, kind_data, reason_data, room_data, task_data, turn_data, why_data, written_data};
 ghost use Rattle.json_lines.specs.Values.{entry_data};
 ghost use Rattle.history_checker.specs.declared.reason.Reason.TheVariants.{WrongEntry};
 
+use crate::inputs::no_input_value;
 use crate::reasons::shown_of;
 use crate::reported::{Decision, LineBreak};
 use history_checker::{LastWrite, Reason, Turn};
 use json_lines::{entry_value, event_value};
 use protocol_lang::Action;
-use room_spec::Spec;
 use serde_json::{Value, json};
 use std::alloc::{AllocError, Global};
 use transcript::Event;
@@ -50,15 +50,32 @@ pub(crate) fn kept_task(alloc: Global, most: Option<u8>) -> Result<Value, AllocE
 /// The line that breaks a run, its event, and why it may not come.
 pub(crate) fn break_value(
     alloc: Global,
+    own: &[u32],
     event: &Event,
     broken: LineBreak,
 ) -> Result<Value, AllocError>
-    ensures { IfOk result (λ value. view value ≡ break_data event.now broken) }
+    ensures { IfOk result (λ value. view value ≡ break_data own.now event.now broken) }
 {
-    let reason = reason_value(alloc, event, broken.reason, broken.earlier)?;
+    let reason = why_value(alloc, own, event, broken.reason, broken.earlier)?;
     let event = event_value(alloc, event)?;
     let line = broken.line;
     json!(in alloc; {"event": event, "line": line, "reason": reason})
+}
+
+/// Why an event may not come in a room whose simulators have these inputs of their own.
+fn why_value(
+    alloc: Global,
+    own: &[u32],
+    event: &Event,
+    reason: Option<Reason>,
+    earlier: Option<u64>,
+) -> Result<Value, AllocError>
+    ensures { IfOk result (λ value. view value ≡ why_data own.now event.now reason earlier) }
+{
+    match reason {
+        None => no_input_value(alloc, own),
+        Some(reason) => reason_value(alloc, event, reason, earlier),
+    }
 }
 
 fn reason_value(
@@ -175,25 +192,25 @@ fn asked_value(alloc: Global, word: &str, v: u32) -> Result<Value, AllocError>
 /// The line that breaks a task, its event, and the values that were decided before.
 pub(crate) fn excess_value(
     alloc: Global,
-    spec: &Spec,
+    inputs: &[u32],
     line: u64,
     event: &Event,
     before: &[Decision],
 ) -> Result<Value, AllocError>
-    ensures { IfOk result (λ value. view value ≡ excess_data spec.now line event.now before.now) }
+    ensures { IfOk result (λ value. view value ≡ excess_data inputs.now line event.now before.now) }
 {
     let decided = decisions_value(alloc, before)?;
-    let input = input_value(spec, event);
+    let input = input_value(inputs, event);
     let event = event_value(alloc, event)?;
     json!(in alloc; {"decided": decided, "event": event, "input": input, "line": line})
 }
 
-/// Whether the value that the event decides is some process's input.
-fn input_value(spec: &Spec, event: &Event) -> Value
-    ensures { view result ≡ input_data spec.now event.now }
+/// Whether the value that the event decides is one of these inputs.
+fn input_value(inputs: &[u32], event: &Event) -> Value
+    ensures { view result ≡ input_data inputs.now event.now }
 {
     match event {
-        Event::Decide { v, .. } => Value::Bool(spec.has_input(*v)),
+        Event::Decide { v, .. } => Value::Bool(inputs.contains(v)),
         Event::Write { .. } => Value::Null,
         Event::Snap { .. } => Value::Null,
     }

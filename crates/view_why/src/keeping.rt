@@ -12,7 +12,7 @@ use io_text::Text;
 use room_files::{Outcome, outcome_if};
 use std::alloc::{AllocError, Global};
 
-/// Writes of each room whose events are a run that keeps its own task whether the run keeps this one. Gives whether each does.
+/// Writes of each ordinary room whose events are a run that keeps its own task whether the run keeps this one. Gives whether each does.
 pub fn write_kept(
     alloc: Global,
     output: &mut Text,
@@ -39,7 +39,7 @@ pub fn with_kept(outcome: Outcome, kept: bool) -> Outcome
     }
 }
 
-/// Writes whether a room's run keeps a task; nothing, if the room's events are no run or break its own task. Gives whether this task isn't broken.
+/// Writes whether an ordinary room's run keeps a task; nothing, if the room's events are no run or break its own task, or of a reduction. Gives whether this task isn't broken.
 fn write_decisions(
     alloc: Global,
     output: &mut Text,

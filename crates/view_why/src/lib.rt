@@ -3,14 +3,17 @@
 
 mod answer;
 mod excess;
+mod inputs;
 mod json;
 mod keeping;
 mod kept_json;
 mod kept_text;
+pub mod laws;
 mod objects;
 mod reasons;
 mod reported;
 mod rooms;
+mod run_rooms;
 mod runs;
 
 pub use answer::{explain, explain_json, explain_kept};

@@ -5,6 +5,7 @@ ghost use Rattle.view_why.specs.Json.{IsBreakData, IsExcessData};
 ghost use Rattle.view_why.specs.Reported.{IsExcess, IsLineBreak};
 ghost use Rattle.view_why.specs.Why.{IsRoomData, IsSaid, IsTaskData, task_verdict_of, verdict_of};
 
+use crate::inputs::{own_inputs, task_inputs};
 use crate::json::{break_value, broken_room, broken_task, excess_value, kept_task, whole_room};
 use crate::reported::{Excess, LineBreak, Reported};
 use io_text::Text;
@@ -60,7 +61,8 @@ fn break_part(alloc: Global, reported: &Reported, broken: LineBreak) -> Result<V
     ensures { IfOk result (λ value. IsBreakData reported.now broken.line (view value)) }
 {
     let event = reported.event(broken.at);
-    break_value(alloc, event, broken)
+    let own = own_inputs(alloc, &reported.spec)?;
+    break_value(alloc, own.as_slice(), event, broken)
 }
 
 /// What is said of a room's task, if it has one.
@@ -90,5 +92,12 @@ fn excess_part(alloc: Global, reported: &Reported, excess: Excess) -> Result<Val
 {
     let event = reported.event(excess.at);
     let before = reported.decided_before(alloc, excess.at)?;
-    excess_value(alloc, &reported.spec, excess.line, event, before.as_slice())
+    let inputs = task_inputs(alloc, &reported.spec)?;
+    excess_value(
+        alloc,
+        inputs.as_slice(),
+        excess.line,
+        event,
+        before.as_slice(),
+    )
 }

@@ -1,16 +1,33 @@
 //! A reason in words.
 ghost use Rattle.std.specs.Prelude.{◌≡◌, ◌++◌, OnOk, codes};
-ghost use Rattle.view_why.specs.Words.{action_words, entry_words, lacking_words, line_words, next_words, process_words, reason_words};
+ghost use Rattle.view_why.specs.Words.{action_words, break_words, entry_words, lacking_words, line_words, next_words, process_words, reason_words};
 ghost use Rattle.view_why.specs.Words.{shown_of, shown_words, written_words};
 
+use crate::inputs::write_no_input;
 use history_checker::{LastWrite, Reason, Turn};
 use io_text::Text;
 use protocol_lang::Action;
 use std::alloc::AllocError;
 use transcript::Event;
 
+/// Writes why an event may not come in a room whose simulators have these inputs of their own.
+pub fn write_break(
+    output: &mut Text,
+    own: &[u32],
+    event: &Event,
+    reason: Option<Reason>,
+    earlier: Option<u64>,
+) -> Result<(), AllocError>
+    ensures { OnOk result (output.new ≡ output.old ++ break_words own.now event.now reason earlier) }
+{
+    match reason {
+        None => write_no_input(output, own, event),
+        Some(reason) => write_reason(output, event, reason, earlier),
+    }
+}
+
 /// Writes why an event may not come. A write that the reason rests on is on line `earlier`.
-pub fn write_reason(
+fn write_reason(
     output: &mut Text,
     event: &Event,
     reason: Reason,

@@ -1,15 +1,18 @@
 //! A room, and what a transcript says of it.
-ghost use Rattle.std.specs.Prelude.{◌≡◌, ◌↔◌, ◌+◌, ◌<◌, ◌≤◌, ◌==◌, ◌∷◌, ◌++◌, [], ℕ, Some, IsOk, IfErr, IfNone, IfOk, IfSome, Err, OnOk, OnErr, length, slice_get, true};
+ghost use Rattle.std.specs.Prelude.{◌≡◌, ◌↔◌, ◌+◌, ◌<◌, ◌≤◌, ◌==◌, ◌∷◌, ◌++◌, [], ℕ, List, MatchBool, Some, IsOk, IfErr, IfNone, IfOk, IfSome, Err, OnOk, OnErr, false, length, map, slice_get, true};
 ghost use Rattle.std.specs.List.{list_any};
-ghost use Rattle.transcript.specs.Runs.{IsRun};
-ghost use Rattle.transcript.specs.Tasks.{KeepsOwnTask};
+ghost use Rattle.room_spec.specs.Rooms.{RoomSpec, is_reduction};
+ghost use Rattle.transcript.specs.Tasks.{KeepsOwnTask, MayBeDecided, decided_in, different};
+ghost use Rattle.transcript.specs.declared.event.Event.{Event as EventValue};
 ghost use Rattle.transcript.specs.declared.event.Event.TheVariants.{Decide};
 ghost use Rattle.decision_tasks.specs.Tasks.{KeepsDecisions};
 ghost use Rattle.view_why.specs.Keeping.{IsDisallowed, IsWellRoom};
-ghost use Rattle.view_why.specs.Reported.{AreDecidedBefore, IsExcess, IsLineBreak, line_of_write};
+ghost use Rattle.view_why.specs.Allowing.{IsAllowedAt};
+ghost use Rattle.view_why.specs.Reported.{AreDecidedBefore, IsExcess, IsLineBreak, IsRunIn, given_inputs, judged_room, line_of_write};
 
+use crate::inputs::task_inputs;
 use decision_tasks::{DecisionTask, Moment, first_broken};
-use history_checker::{Reason, check_task, why};
+use history_checker::{Reason, check_reduction, check_task, why};
 use room_spec::Spec;
 use std::alloc::{AllocError, Global};
 use std::marker::Model;
@@ -45,7 +48,8 @@ pub struct LineBreak {
     pub at: usize,
     /// Its line.
     pub line: u64,
-    pub reason: Reason,
+    /// Why it may not follow those before it; nothing if it is because a reduction's simulators have no inputs from which it may.
+    pub reason: Option<Reason>,
     /// The line of the write that the reason rests on, if it rests on one.
     pub earlier: Option<u64>,
 }
@@ -105,7 +109,19 @@ impl Reported {
 
     /// Why the events are no run.
     pub fn why(&self) -> Result<(), LineBreak>
-        ensures run { IsOk result ↔ IsRun self.now.spec self.now.events }
+        ensures run { IsOk result ↔ IsRunIn self.now.spec self.now.events }
+        ensures first { (broken : LineBreak) → (result ≡ Err broken) ↔ IsLineBreak self.now broken }
+    {
+        if self.spec.is_reduction() {
+            return self.why_no_input();
+        }
+        self.why_ordinary()
+    }
+
+    /// Why the events of an ordinary room are no run.
+    fn why_ordinary(&self) -> Result<(), LineBreak>
+        requires { is_reduction self.now.spec ≡ false }
+        ensures run { IsOk result ↔ IsRunIn self.now.spec self.now.events }
         ensures first { (broken : LineBreak) → (result ≡ Err broken) ↔ IsLineBreak self.now broken }
     {
         match why(&self.spec, self.events.as_slice()) {
@@ -113,8 +129,25 @@ impl Reported {
             Err(broken) => Err(LineBreak {
                 at: broken.at,
                 line: self.lines[broken.at],
-                reason: broken.reason,
+                reason: Some(broken.reason),
                 earlier: self.line_of_write(broken.reason),
+            }),
+        }
+    }
+
+    /// The first event of a reduction that may follow those before it from none of the simulators' own inputs.
+    fn why_no_input(&self) -> Result<(), LineBreak>
+        requires { is_reduction self.now.spec ≡ true }
+        ensures run { IsOk result ↔ IsRunIn self.now.spec self.now.events }
+        ensures first { (broken : LineBreak) → (result ≡ Err broken) ↔ IsLineBreak self.now broken }
+    {
+        match check_reduction(&self.spec, self.events.as_slice()) {
+            Ok(()) => Ok(()),
+            Err(at) => Err(LineBreak {
+                at,
+                line: self.lines[at],
+                reason: None,
+                earlier: None,
             }),
         }
     }
@@ -127,9 +160,22 @@ impl Reported {
         &self.events[at]
     }
 
-    /// Whether the decisions keep the room's task, if it has one. Else the first event that decides what the task doesn't allow.
-    pub fn excess(&self) -> Result<(), Excess>
-        ensures keeps { IsOk result ↔ KeepsOwnTask self.now.spec self.now.events }
+    /// Whether the decisions keep the room's task, if it has one: in a reduction by the simulators' own inputs. Else the first event that
+    /// decides what the task doesn't allow.
+    pub fn excess(&self, alloc: Global) -> Result<Result<(), Excess>, AllocError>
+        ensures keeps { IfOk result (λ found. IsOk found ↔ KeepsOwnTask (judged_room self.now.spec) self.now.events) }
+        ensures first { IfOk result (λ found. IfErr found (IsExcess self.now)) }
+    {
+        if self.spec.is_reduction() {
+            return self.excess_of_own(alloc);
+        }
+        Ok(self.excess_ordinary())
+    }
+
+    /// The same of an ordinary room, by its processes' inputs.
+    fn excess_ordinary(&self) -> Result<(), Excess>
+        requires { is_reduction self.now.spec ≡ false }
+        ensures keeps { IsOk result ↔ KeepsOwnTask (judged_room self.now.spec) self.now.events }
         ensures first { IfErr result (IsExcess self.now) }
     {
         let Some(most) = self.spec.task() else {
@@ -145,11 +191,52 @@ impl Reported {
         }
     }
 
-    /// Whether the events are a run that keeps the room's task, if it has one.
+    /// The same by the simulators' own inputs, event by event.
+    fn excess_of_own(&self, alloc: Global) -> Result<Result<(), Excess>, AllocError>
+        ensures keeps { IfOk result (λ found. IsOk found ↔ KeepsOwnTask (judged_room self.now.spec) self.now.events) }
+        ensures first { IfOk result (λ found. IfErr found (IsExcess self.now)) }
+    {
+        let Some(most) = self.spec.task() else {
+            return Ok(Ok(()));
+        };
+        let inputs = task_inputs(alloc, &self.spec)?;
+        let mut before = Vec::new(alloc);
+        for at in 0..self.events.len() {
+            if !self.is_allowed(most, inputs.as_slice(), before.as_slice(), at) {
+                return Ok(Err(Excess {
+                    at,
+                    line: self.lines[at],
+                    most,
+                }));
+            }
+            self.note_decision(&mut before, at)?;
+        }
+        Ok(Ok(()))
+    }
+
+    /// Whether a task of at most `most` of these inputs allows the event of this index after these decisions.
+    fn is_allowed(&self, most: u8, inputs: &[u32], before: &[Decision], at: usize) -> bool
+        requires at { at < length self.now.events }
+        requires inputs { inputs.now ≡ given_inputs self.now.spec }
+        requires before { AreDecidedBefore self.now at before.now }
+        ensures { IsAllowedAt self.now most at result }
+    {
+        match &self.events[at] {
+            Event::Decide { v, .. } => may_decide(most, inputs, before, *v),
+            Event::Write { .. } => true,
+            Event::Snap { .. } => true,
+        }
+    }
+
+    /// Whether the room is an ordinary one whose events are a run that keeps its task, if it has one.
+    #[tactic(auto, using(crate::proofs::Owning::well_ordinary))]
     pub fn is_well(&self) -> bool
         ensures { (result ≡ true) ↔ IsWellRoom self.now }
     {
-        self.why().is_ok() && self.excess().is_ok()
+        if self.spec.is_reduction() {
+            return false;
+        }
+        self.why_ordinary().is_ok() && self.excess_ordinary().is_ok()
     }
 
     /// The first event after which what was decided is not what the task allows, if there is one.
@@ -207,7 +294,7 @@ impl Reported {
 
     /// The line of the write that the reason rests on.
     fn line_of_write(&self, reason: Reason) -> Option<u64>
-        ensures { result ≡ line_of_write self.now.lines reason }
+        ensures { result ≡ line_of_write self.now.lines (Some reason) }
     {
         match reason {
             Reason::WrongEntry { written, .. } => match written {
@@ -217,6 +304,25 @@ impl Reported {
             _ => None,
         }
     }
+}
+
+/// Whether a task of at most `most` of these inputs allows this decision after these.
+#[tactic(auto, using(crate::proofs::Allowing::refuses_input, crate::proofs::Allowing::allows_room, crate::proofs::Allowing::refuses_over, crate::proofs::Allowing::by_among))]
+fn may_decide(most: u8, inputs: &[u32], before: &[Decision], v: u32) -> bool
+    ensures { (spec : RoomSpec) (events : List EventValue) → spec.inputs ≡ inputs.now → map (λ one. one.value) before.now ≡ different (decided_in events)
+        → MatchBool result (MayBeDecided spec most events v) (MayBeDecided spec most events v → ⊥) }
+{
+    if !inputs.contains(&v) {
+        return false;
+    }
+    let most = usize::from(most);
+    if before.len() < most {
+        return true;
+    }
+    if before.len() > most {
+        return false;
+    }
+    is_among(before, v)
 }
 
 /// Whether one of these decisions is of this value.

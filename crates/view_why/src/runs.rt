@@ -6,31 +6,37 @@ ghost use Rattle.history_checker.specs.Verdicts.{FedEvent, HasProcessed, fed_to,
 ghost use Rattle.io_text.specs.Reading.{most_bytes};
 ghost use Rattle.room_files.specs.Blocks.{IsFaultOr};
 ghost use Rattle.room_files.specs.Inputs.{MayLackMemory, input_says};
+ghost use Rattle.room_files.specs.declared.kinds.Kinds.TheVariants.{All};
 ghost use Rattle.fault_text.specs.Refusals.{refusal_line};
-ghost use Rattle.view_why.specs.Why.{IsExplanation, IsExplanationFor, IsRoomSaid};
+ghost use Rattle.view_why.specs.Why.{AreOrdinary, IsExplanation, IsExplanationFor, IsRoomSaid};
 
+use crate::run_rooms::RunRooms;
 use fault_text::Refusals;
 use history_checker::Rooms;
 use io_text::Text;
 use room_files::{
-    Answer, InputFault, Setup, feed_events, is_well, outcome_if, read_blocks, write_task,
+    Answer, InputFault, Kinds, Setup, feed_events, is_well, outcome_if, read_blocks, write_task,
     write_verdict,
 };
 use std::alloc::{AllocError, Global};
 
-/// Judges an input as `check` does, with no event kept. Gives the answer to it if each room's events are a run that keeps its task.
+/// Judges an input as `check` does, with no event kept. Gives the answer to it if no room is a reduction and each room's events are a run that keeps its task.
 pub fn explain_runs(alloc: Global, input: &[u8]) -> Result<Option<Answer>, InputFault>
     requires { length input.now ≤ most_bytes }
     ensures output { IfOk result (λ found. IfSome found (λ answer. IsExplanationFor input.now answer.outcome answer.output)) }
-    ensures err { IfErr result (IsFaultOr (MayLackMemory input.now) (input_says input.now)) }
+    ensures err { IfErr result (IsFaultOr (MayLackMemory All input.now) (input_says All input.now)) }
 {
-    let setup = Setup::new(Rooms::new(alloc), Refusals::new(alloc));
-    let (setup, transcript) = read_blocks(alloc, setup, input)?;
+    let setup = Setup::new(RunRooms::new(alloc), Refusals::new(alloc));
+    let (setup, transcript) = read_blocks(alloc, Kinds::All, setup, input)?;
     let Setup {
-        mut rooms,
+        rooms,
         refused,
         line,
     } = setup;
+    if rooms.has_reduction() {
+        return Ok(None);
+    }
+    let mut rooms = rooms.into_rooms();
     feed_events(&mut rooms, line, transcript)?;
     Ok(answer_of_runs(alloc, input, &rooms, &refused)?)
 }
@@ -42,6 +48,7 @@ fn answer_of_runs(
     rooms: &Rooms,
     refusals: &Refusals,
 ) -> Result<Option<Answer>, AllocError>
+    requires { AreOrdinary (specs_of rooms.now) }
     ensures { IfOk result (λ found. IfSome found (λ answer. (fed : List FedEvent) → HasProcessed rooms.now fed →
         IsExplanation false input.now (specs_of rooms.now) (flat_map refusal_line refusals.now) fed answer.outcome answer.output)) }
 {
@@ -60,6 +67,7 @@ fn answer_of_runs(
 
 /// Writes the verdicts on the room of this index, if it is a run that keeps its task. Gives whether it is one.
 fn write_run(output: &mut Text, rooms: &Rooms, index: usize) -> Result<bool, AllocError>
+    requires { AreOrdinary (specs_of rooms.now) }
     ensures { IfOk result (λ well. well ≡ true → (fed : List FedEvent) → HasProcessed rooms.now fed → (spec : RoomSpec) ×
         (slice_get (specs_of rooms.now) index ≡ Some spec) × IsRoomSaid false spec (fed_to spec.name fed) output.old output.new true) }
 {

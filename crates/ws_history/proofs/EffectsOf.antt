@@ -1,14 +1,13 @@
 -- What the words say before and after a step is what takes effect at it.
-use Rattle.std.proofs.Common.{◌≡◌, ◌≢◌, ◌⊎◌, ℕ, ◌+◌, ◌-◌, ◌<◌, ◌≤◌, Bool, true, false, cond, eqb, leb, ltb, List, [], ◌∷◌, ◌++◌, length, Option, Some, None, inl, inr, refl, sym, ap, ◌∙◌, subst, arith}
+use Rattle.std.proofs.Common.{◌≡◌, ◌≢◌, ◌⊎◌, ℕ, ◌+◌, ◌-◌, ◌<◌, ◌≤◌, Bool, true, false, not, cond, eqb, leb, ltb, List, [], ◌∷◌, ◌++◌, length, Option, Some, None, inl, inr, refl, sym, ap, ◌∙◌, subst, arith}
 use Rattle.std.specs.Prelude.{◌&&◌, ◌||◌}
 use Rattle.std.specs.List.{find, list_any}
 use Rattle.std.specs.Option.{option_map}
 use Rattle.std.proofs.lemmas.Bool.{and_parts, cases_Bool, cases_eq, eq-eqb, eqb-true, lt-leb, ltb-false, ltb-true}
 use Rattle.room_spec.specs.Rooms.{RoomSpec, IsWithinLimits, processes}
 use Rattle.simulator.specs.declared.line.Line.{Line}
-use Rattle.simulator.specs.declared.line.Line.TheVariants.{Rest}
+use Rattle.simulator.specs.declared.line.Line.TheVariants.{Raise, Out}
 use Rattle.simulator.specs.Minds.{current_round}
-use Rattle.simulator.specs.Sweeps.{is_resting}
 use Rattle.simulator.specs.Turns.{words_in}
 use Rattle.room_core.specs.Agreements.{decided_in, greatest_step, has_out, is_out, outs_at, written}
 use Rattle.room_core.specs.Calls.{RoomState, configuration_of, moved, room_after_step, step_reply, sweep_at}
@@ -17,15 +16,15 @@ use Rattle.room_core.specs.Moments.{fields_at}
 use Rattle.room_core.specs.Points.{Point, Writes, Decides, write_counted, snapshot_read, decision_stored, is_snap, reads_in}
 use Rattle.room_core.specs.Rooms.{HasLine, IsLegal, IsOneInterleaving, ScheduleEvent, opening, replay, stepped, steps}
 use Rattle.room_core.specs.declared.reply.StepReply.TheVariants.{Stepped}
-use Rattle.room_core.proofs.CallerLemmas.{at_before, at_end, left_alone, length-snoc, moved_data, shapes, taken_line, taken_moves, under_line_at_end}
+use Rattle.room_core.proofs.CallerLemmas.{at_before, at_end, left_uncounted, left_unstored, length-snoc, moved_data, shapes, taken_line, taken_moves, under_line_at_end}
 use Rattle.ws_history.specs.declared.effects.Effect.{Effect}
 use Rattle.ws_history.specs.declared.effects.Effect.TheVariants.{Write, Snapshot}
 use Rattle.ws_history.specs.declared.points.Before.{Before}
 use Rattle.ws_history.specs.Effects.{HasNoEffect, IsEffectOf, ReadsNext, TakesEffectNext, decision_by, effect_in, effect_inside, has_read}
-use Rattle.ws_history.specs.Noting.{before_step, looked}
+use Rattle.ws_history.specs.Noting.{before_step, looked, may_take_effect}
 use Rattle.ws_history.specs.Readings.{read_of}
 use Rattle.ws_history.proofs.Agreeing.{same_written}
-use Rattle.ws_history.proofs.Noted.{both_true, mind_low, no_read, not_true_of, read_parts, read_whole, reads_by, resting_is}
+use Rattle.ws_history.proofs.Noted.{both_true, mind_low, no_out, no_raise, no_read, no_snap, not_true_of, read_parts, read_whole, reads_by}
 use Rattle.ws_history.proofs.RoomFields.{low_greatest}
 use Rattle.ws_history.proofs.Said.{IsSaid, agree, said_count, said_decided, said_mind, said_out}
 
@@ -143,13 +142,16 @@ module _ (room : RoomState) (i : ℕ) (limits : IsWithinLimits room.spec) (one :
   said' : IsSaid (sweep_at (moved room i) i).mind (E'.mind i)
   said' = said_mind (moved room i) limits after_one i may.alive.below
 
-  left : (p : ℕ) → ((E.mind i).line ≡ Rest) ⊎ (p ≢ (E.mind i).process) → (greatest_step room.spec E' p ≡ greatest_step room.spec E p) × (has_out room.spec E' p ≡ has_out room.spec E p)
-  left p apart = left_alone (configuration_of room) limits one i may p apart
+  left_count : (p : ℕ) → ((E.mind i).line ≢ Raise) ⊎ (p ≢ (E.mind i).process) → greatest_step room.spec E' p ≡ greatest_step room.spec E p
+  left_count p why = left_uncounted (configuration_of room) limits one i may p why
 
-  resting : is_resting (sweep_at room i).mind.line ≡ true → IsEffectOf room.spec one.schedule i None
-  resting is =
-      let rest : (E.mind i).line ≡ Rest = sym said.line ∙ resting_is (sweep_at room i).mind.line is in
-      no_effect room.spec one.schedule i (λ p low. let same = (left p (inl rest)).0 in omega (arith, same)) (λ p r. no_read room.spec E E' i p r (ap is_snap rest)) (λ p low none. (left p (inl rest)).1 ∙ none)
+  left_out : (p : ℕ) → ((decision : ℕ) → (E.mind i).line ≢ Out decision) ⊎ (p ≢ (E.mind i).process) → has_out room.spec E' p ≡ has_out room.spec E p
+  left_out p why = left_unstored (configuration_of room) limits one i may p why
+
+  elsewhere : may_take_effect (sweep_at room i).mind.line ≡ false → IsEffectOf room.spec one.schedule i None
+  elsewhere is =
+      let none : may_take_effect (E.mind i).line ≡ false = sym (ap may_take_effect said.line) ∙ is in
+      no_effect room.spec one.schedule i (λ p low. let same = left_count p (inl (no_raise (E.mind i).line none)) in omega (arith, same)) (λ p r. no_read room.spec E E' i p r (no_snap (E.mind i).line none)) (λ p low live. left_out p (inl (no_out (E.mind i).line none)) ∙ live)
 
   module _ (low : j < processes room.spec) (last : current_round (sweep_at room i).mind ≤ room.spec.rounds) where
     c0 : greatest_step room.spec (read_of room) j ≡ greatest_step room.spec E j
@@ -203,7 +205,7 @@ module _ (room : RoomState) (i : ℕ) (limits : IsWithinLimits room.spec) (one :
           let before : greatest_step room.spec E p ≡ greatest_step room.spec E j = ap (greatest_step room.spec E) here in
           let after : greatest_step room.spec E' p ≡ greatest_step room.spec E' j = ap (greatest_step room.spec E') here in
           omega (arith, most, c0, c1, before, after)
-      | inr apart ↦ let same = (left p (inr apart)).0 in omega (arith, same)
+      | inr apart ↦ let same = left_count p (inr apart) in omega (arith, same)
     ]
 
     unstored : (has_out room.spec (read_of room) j ≡ true) ⊎ (has_out room.spec (read_of (moved room i)) j ≡ false) → (p : ℕ) → p < processes room.spec → has_out room.spec E p ≡ false → has_out room.spec E' p ≡ false
@@ -214,7 +216,7 @@ module _ (room : RoomState) (i : ℕ) (limits : IsWithinLimits room.spec) (one :
             | inl had ↦ absurd (let wrong : true ≡ false = sym had ∙ said_out room limits one j low ∙ ap (has_out room.spec E) (sym here) ∙ none in cc)
             | inr still ↦ ap (has_out room.spec E') here ∙ sym (said_out (moved room i) limits after_one j low) ∙ still
           ]
-      | inr apart ↦ (left p (inr apart)).1 ∙ none
+      | inr apart ↦ left_out p (inr apart) ∙ none
     ]
 
     abbrev Of : Option Effect → Type 0
@@ -253,13 +255,13 @@ effect_is room i limits one stepped =
     let may = taken_line room i shape stepped in
     let low = mind_low room i shape may.alive.below in
     subst (λ (after : RoomState). IsEffectOf room.spec one.schedule i (effect_in after i (looked room i))) (sym (taken_moves room i stepped))
-    (subst (λ (b : Bool). IsEffectOf room.spec one.schedule i (effect_in (moved room i) i (cond (b || is_resting (sweep_at room i).mind.line) None (Some (before_step room i))))) (sym (lt-leb room.spec.simulators i may.alive.below))
-    (by_line may low (is_resting (sweep_at room i).mind.line) refl))
+    (subst (λ (b : Bool). IsEffectOf room.spec one.schedule i (effect_in (moved room i) i (cond (b || not (may_take_effect (sweep_at room i).mind.line)) None (Some (before_step room i))))) (sym (lt-leb room.spec.simulators i may.alive.below))
+    (by_line may low (may_take_effect (sweep_at room i).mind.line) refl))
   where
-    by_line : HasLine (configuration_of room) i → ((sweep_at room i).mind.process < processes room.spec) × (current_round (sweep_at room i).mind ≤ room.spec.rounds) → (b : Bool) → is_resting (sweep_at room i).mind.line ≡ b
-        → IsEffectOf room.spec one.schedule i (effect_in (moved room i) i (cond b None (Some (before_step room i))))
-    by_line may low true rest = resting room i limits one may rest
-    by_line may low false going =
+    by_line : HasLine (configuration_of room) i → ((sweep_at room i).mind.process < processes room.spec) × (current_round (sweep_at room i).mind ≤ room.spec.rounds) → (b : Bool) → may_take_effect (sweep_at room i).mind.line ≡ b
+        → IsEffectOf room.spec one.schedule i (effect_in (moved room i) i (cond (not b) None (Some (before_step room i))))
+    by_line may low false none = elsewhere room i limits one may none
+    by_line may low true may_be =
         subst (λ (b : Bool). IsEffectOf room.spec one.schedule i (cond (b || leb (processes room.spec) (sweep_at room i).mind.process) None (effect_inside (moved room i) i (before_step room i)))) (sym (lt-leb room.spec.simulators i may.alive.below))
         (subst (λ (b : Bool). IsEffectOf room.spec one.schedule i (cond b None (effect_inside (moved room i) i (before_step room i)))) (sym (lt-leb (processes room.spec) (sweep_at room i).mind.process low.0))
         (turning room i limits one may low.0 low.1))

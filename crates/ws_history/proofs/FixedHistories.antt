@@ -5,7 +5,7 @@ use Rattle.room_spec.specs.Rooms.{RoomSpec, processes}
 use Rattle.transcript.specs.declared.event.Event.{Event}
 use Rattle.transcript.specs.declared.event.Event.TheVariants.{Write, Snap}
 use Rattle.room_core.specs.Fields.{Fields}
-use Rattle.room_core.specs.Agreements.{HasAgreed, decided_in, greatest_step, is_fixed, is_passed, outs_at, row_at}
+use Rattle.room_core.specs.Agreements.{HasAgreed, decided_in, greatest_step, is_fixed, is_passed, outs_at, row_at, run_spec}
 use Rattle.room_core.specs.Points.{Point, Writes, Snaps, Decides}
 use Rattle.room_core.proofs.CallerLemmas.{test_of}
 use Rattle.ws_history.specs.Histories.{Snapshot, Source, IsSource, decided, history_from, shown_row}
@@ -16,6 +16,7 @@ use Rattle.ws_history.proofs.Order.{last_is, last_round, round_least, round_most
 use Rattle.ws_history.proofs.Sorting.{from_order, to_order, from_passed, to_passed}
 use Rattle.ws_history.proofs.PassedSources.{is_source}
 use Rattle.ws_history.proofs.OwnEvents.{decision_behind, history_told, open_of, rounds_of, told, told_snap}
+use Rattle.ws_history.proofs.RunSpecs.{history_run, low_in_run}
 use Rattle.ws_history.proofs.SourceIs.{found_in, gone_beyond, is_of_fixed, is_of_passed, one_of}
 use Rattle.ws_history.proofs.Deciders.{out_found}
 
@@ -65,11 +66,18 @@ module _ (spec : RoomSpec) (fields : Fields) (has : HasAgreed spec fields) (p : 
   abbrev g : ℕ
   g = greatest_step spec fields p
 
-  source : IsSource spec (source_of spec fields)
-  source = is_source spec (source_of spec fields) (is_passed spec fields) (is_of_passed spec fields has)
+  -- the ordinary room of the run
+  abbrev run : RoomSpec
+  run = run_spec spec fields
 
-  source_fixed : IsSource spec (fixed_source_of spec fields)
-  source_fixed = is_source spec (fixed_source_of spec fields) (is_fixed spec fields) (is_of_fixed spec fields has)
+  low_there : p < processes (run_spec spec fields)
+  low_there = low_in_run spec fields p low
+
+  source : IsSource (run_spec spec fields) (source_of spec fields)
+  source = is_source (run_spec spec fields) (source_of spec fields) (is_passed spec fields) (is_of_passed spec fields has)
+
+  source_fixed : IsSource (run_spec spec fields) (fixed_source_of spec fields)
+  source_fixed = is_source (run_spec spec fields) (fixed_source_of spec fields) (is_fixed spec fields) (is_of_fixed spec fields has)
 
   -- what was passed is fixed
   more : (s : Snapshot) → Contains (source_of spec fields).order s → Contains (fixed_source_of spec fields).order s
@@ -85,11 +93,11 @@ module _ (spec : RoomSpec) (fields : Fields) (has : HasAgreed spec fields) (p : 
       subst (λ (q : ℕ). t.round ≤ last_round (fixed_source_of spec fields).order q) same most)
 
   history_is : events_of p (history_of spec fields) ≡ told src p g (last_round src.order p) (decided p (decision_behind src p (last_round src.order p)))
-  history_is = history_told spec src source (lasts spec fields) p low
+  history_is = ap (events_of p) (sym (history_run spec fields src)) ∙ history_told run src source (lasts spec fields) p low_there
 
   pub fixed_is : events_of p (history_from spec (fixed_source_of spec fields)) ≡ told src p g (last_round fixed.order p) (decided p (decision_behind src p (last_round fixed.order p)))
   fixed_is =
-      history_told spec fixed source_fixed (lasts spec fields) p low
+      ap (events_of p) (sym (history_run spec fields fixed)) ∙ history_told run fixed source_fixed (lasts spec fields) p low_there
       ∙ same_told spec fields p g (last_round fixed.order p) (decided p (decision_behind fixed p (last_round fixed.order p)))
       ∙ ap (λ (o : Option ℕ). told src p g (last_round fixed.order p) (decided p o)) (same_behind spec fields p (last_round fixed.order p))
 
@@ -98,10 +106,10 @@ module _ (spec : RoomSpec) (fields : Fields) (has : HasAgreed spec fields) (p : 
   rounds_in = last_round (fixed_source_of spec fields).order p
 
   pub rounds_most : last_round (fixed_source_of spec fields).order p ≤ greatest_step spec fields p
-  rounds_most = let last = last_is spec fixed source_fixed in let b = last.behind p in let d = last.grows p low in omega (arith, b, d)
+  rounds_most = let last = last_is run fixed source_fixed in let b = last.behind p in let d = last.grows p low_there in omega (arith, b, d)
 
   pub rounds_least : greatest_step spec fields p ≤ last_round (fixed_source_of spec fields).order p + 1
-  rounds_least = (last_is spec fixed source_fixed).one_more p low
+  rounds_least = (last_is run fixed source_fixed).one_more p low_there
 
   pub round_fixed : (r : ℕ) → 1 ≤ r → r ≤ last_round (fixed_source_of spec fields).order p → is_fixed spec fields p r ≡ true
   round_fixed r first within = elim (cases_eq r (last_round (fixed_source_of spec fields).order p)) [
@@ -145,11 +153,11 @@ module _ (spec : RoomSpec) (fields : Fields) (has : HasAgreed spec fields) (p : 
     | inl same ↦ inl (fixed_is ∙ ap (λ (c : ℕ). told src p g c (decided p (decision_behind src p c))) (sym same) ∙ sym history_is)
     | inr apart ↦
         let some = grows in
-        let last = last_is spec src source in
-        let last' = last_is spec fixed source_fixed in
-        let a = last.one_more p low in
+        let last = last_is run src source in
+        let last' = last_is run fixed source_fixed in
+        let a = last.one_more p low_there in
         let b = last'.behind p in
-        let d = last'.grows p low in
+        let d = last'.grows p low_there in
         let next : g ≡ last_round src.order p + 1 = omega (arith, some, apart, a, b, d) in
         let all : last_round fixed.order p ≡ g = omega (arith, some, apart, a, b, d) in
         let snap : Event = Snap p (record { items = shown_row src (record { process = p; round = g }) }) in

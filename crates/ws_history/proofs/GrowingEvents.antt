@@ -1,10 +1,12 @@
 -- As a room goes on, what each process does in its linearization begins what it does later.
 use Rattle.std.proofs.Common.{◌≡◌, ℕ, zero, suc, ◌+◌, ◌-◌, ◌<◌, ◌≤◌, Bool, true, cond, eqb, List, [], ◌∷◌, ◌++◌, length, map, get_or, Option, Some, None, refl, sym, ap, ◌∙◌, subst, arith, inl, inr, append-nil, append_assoc}
+use Rattle.std.specs.Prelude.{slice_index, unwrap_or}
 use Rattle.std.specs.List.{range_with_len}
+use Rattle.protocol_lang.specs.Meaning.{first_value}
 use Rattle.std.proofs.lemmas.Bool.{cases_eq, cases_lt, cases_Bool, eq-eqb, eqb-true}
 use Rattle.protocol_lang.specs.declared.meaning.Action.{Action}
 use Rattle.protocol_lang.specs.declared.meaning.Action.TheVariants as actions
-use Rattle.room_spec.specs.Rooms.{RoomSpec, IsWithinLimits, processes}
+use Rattle.room_spec.specs.Rooms.{RoomSpec, IsWithinLimits, is_reduction, processes}
 use Rattle.sim_memory.specs.Steps.{row_of}
 use Rattle.sim_memory.proofs.CallerLemmas.{row_length}
 use Rattle.transcript.specs.declared.event.Event.{Event}
@@ -13,14 +15,15 @@ use Rattle.room_core.specs.Calls.{RoomState}
 use Rattle.room_core.specs.Fields.{Fields, StepMap}
 use Rattle.room_core.specs.Reading.{AreFieldsOf}
 use Rattle.room_core.specs.Rooms.{ScheduleEvent}
-use Rattle.room_core.specs.Agreements.{HasAgreed, asks, decided_in, greatest_step, is_fixed, row_at, view_at, written}
-use Rattle.room_core.proofs.CallerLemmas.{GoesOn, fixed_of, goes_on, rooms_agree}
+use Rattle.room_core.specs.Agreements.{HasAgreed, asks, decided_in, greatest_step, input_at, is_fixed, is_input_known, row_at, shown_of, view_at, written}
+use Rattle.room_core.proofs.CallerLemmas.{GoesOn, fixed_of, goes_on, rooms_agree, written_known}
 use Rattle.ws_history.specs.Histories.{Source, decided, history_from, shown, shown_row}
 use Rattle.ws_history.specs.Sources.{fixed_source_of, source_of}
 use Rattle.ws_history.specs.Linearizations.{Begins, events_of, linearized}
 use Rattle.ws_history.proofs.FixedHistories.{fixed_is, lasts, round_fixed, round_there_if, rounds_in, rounds_least, rounds_most}
 use Rattle.ws_history.proofs.Linearized.{linearized_fixed}
 use Rattle.ws_history.proofs.OwnEvents.{decision_behind, level_told, open_of, rounds_of, told}
+use Rattle.ws_history.proofs.RunSpecs.{agreed_is, ordinary_input}
 use Rattle.ws_history.proofs.SourceIs.{decided_is}
 use Rattle.ws_history.proofs.Walking.{map_same}
 
@@ -69,7 +72,20 @@ no_write x y is = cc
 
 -- ---- two fields, the first of which go on to the second
 
-module _ (spec : RoomSpec) (F G : Fields) (has : HasAgreed spec F) (has' : HasAgreed spec G) (goes : GoesOn spec F G) where
+-- a process of which a write was counted has its input
+abbrev HasInputs : RoomSpec → Fields → Type 0
+HasInputs spec fields = (p : ℕ) → p < processes spec → is_reduction spec ≡ true → 1 ≤ greatest_step spec fields p → is_input_known spec fields p ≡ true
+
+module _ (spec : RoomSpec) (F G : Fields) (has : HasAgreed spec F) (has' : HasAgreed spec G) (goes : GoesOn spec F G) (known : HasInputs spec F) where
+  -- which stays
+  input_same : (p : ℕ) → p < processes spec → 1 ≤ greatest_step spec F p → input_at spec G p ≡ input_at spec F p
+  input_same p low some = elim (cases_Bool (is_reduction spec)) [
+    | inl is ↦
+        let then = agreed_is spec F p (known p low is some) in
+        ap (λ (o : Option ℕ). unwrap_or o (slice_index spec.inputs p)) (goes.inputs p (F.value (shown_of spec F p 0) p 0) low then ∙ sym then)
+    | inr is ↦ ordinary_input spec G is p ∙ sym (ordinary_input spec F is p)
+  ]
+
   abbrev one : Source
   one = source_of spec F
 
@@ -78,7 +94,11 @@ module _ (spec : RoomSpec) (F G : Fields) (has : HasAgreed spec F) (has' : HasAg
 
   written_same : (p r : ℕ) → p < processes spec → 1 ≤ r → r ≤ greatest_step spec F p → written spec G p r ≡ written spec F p r
   written_same p zero low first most = absurd (omega (arith, first))
-  written_same p (suc zero) low first most = let more = goes.counted p low in has'.first_is_due p low (omega (arith, most, more)) ∙ sym (has.first_is_due p low (omega (arith, most)))
+  written_same p (suc zero) low first most =
+      let more = goes.counted p low in
+      has'.first_is_due p low (omega (arith, most, more))
+      ∙ ap (λ (x : ℕ). first_value spec.protocol x p (processes spec)) (input_same p low (omega (arith, most)))
+      ∙ sym (has.first_is_due p low (omega (arith, most)))
   written_same p (suc (suc q)) low first most =
       let more = goes.counted p low in
       let fixed = Rattle.room_core.proofs.CallerLemmas.test_of spec F p (suc q) (has.passed_is_fixed p (suc q) low (omega arith) (Rattle.ws_history.proofs.SourceIs.gone_beyond spec F p (suc q) (omega (arith, most)))) in
@@ -237,6 +257,7 @@ linearized_begins room later fields final limits are ares same more is p low =
     let limits' = subst IsWithinLimits same limits in
     let low' : p < processes later.spec = subst (λ (s : RoomSpec). p < processes s) same low in
     let has : HasAgreed later.spec fields = subst (λ (s : RoomSpec). HasAgreed s fields) same (rooms_agree room fields limits are) in
-    let it = fixed_begins later.spec fields final has (rooms_agree later final limits' ares) (goes_on room later fields final limits are ares same more is) p low' in
+    let known : HasInputs later.spec fields = subst (λ (s : RoomSpec). HasInputs s fields) same (λ q within reduction some. written_known room fields limits are q reduction some) in
+    let it = fixed_begins later.spec fields final has (rooms_agree later final limits' ares) (goes_on room later fields final limits are ares same more is) known p low' in
     let first = linearized_fixed room fields limits are p low ∙ ap (λ (s : RoomSpec). events_of p (history_from s (fixed_source_of s fields))) same in
     record { rest = it.rest; is = linearized_fixed later final limits' ares p low' ∙ it.is ∙ ap (λ (l : List Event). l ++ it.rest) (sym first) }

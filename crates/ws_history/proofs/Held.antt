@@ -3,12 +3,12 @@ use Rattle.std.proofs.Common.{◌≡◌, ◌≢◌, ℕ, zero, suc, ◌+◌, ◌
 use Rattle.std.specs.Prelude.{◌||◌}
 use Rattle.std.specs.Option.{option_map}
 use Rattle.std.specs.List.{range_with_len, list_any, filter, find, count_by}
-use Rattle.std.proofs.lemmas.Bool.{cases_Bool, and_parts, eqb-true}
+use Rattle.std.proofs.lemmas.Bool.{cases_Bool, and_parts, eqb-true, or_cases}
 use Rattle.std.proofs.lemmas.List.Folds.{Any-from_list_any}
 use Rattle.std.proofs.lemmas.List.Sums.{sum_by-cons}
 use mathlib.Core.Logic.{dite}
 use native.Mathlib.Decide.{ℕ_discrete}
-use Rattle.room_spec.specs.Rooms.{RoomSpec, IsWithinLimits, processes}
+use Rattle.room_spec.specs.Rooms.{RoomSpec, IsWithinLimits, is_reduction, processes}
 use Rattle.room_core.specs.Calls.{RoomState}
 use Rattle.room_core.specs.Fields.{Fields}
 use Rattle.room_core.specs.Reading.{AreFieldsOf}
@@ -96,6 +96,15 @@ held_among spec fields j i below is =
     let open_yet : has_out spec fields j ≡ false = none_found (outs_at spec fields j) both.0 in
     passes_in_range (λ q. not (has_out spec fields q) && is_some (held_by spec fields q)) 0 (processes spec) j (omega arith) (omega arith) (rw (open_yet, both.1) refl)
 
+-- who is inside an agreement of a process is at level 1 in one
+pub level_one : (spec : RoomSpec) (fields : Fields) (i j : ℕ) → is_inside spec fields i j ≡ true → (k : ℕ) × (fields.level i j k ≡ 1)
+level_one spec fields i j inside = elim (or_cases _ _ inside) [
+  | inl first ↦ (0, eqb-true _ _ (and_parts (is_reduction spec) (eqb (fields.level i j 0) 1) first).1)
+  | inr later ↦
+      let some = Any-from_list_any (λ k. eqb (fields.level i j k) 1) (range_with_len 1 spec.rounds) later in
+      (some.1, eqb-true _ _ some.4)
+]
+
 module _ (room : RoomState) (fields : Fields) (limits : IsWithinLimits room.spec) (are : AreFieldsOf room fields) where
   -- the process on which the open turn of a simulator works
   abbrev sweep_of : ℕ → ℕ
@@ -106,10 +115,9 @@ module _ (room : RoomState) (fields : Fields) (limits : IsWithinLimits room.spec
   held_at j i is =
       let at = found_in_range (λ a. fields.crashed a && is_inside room.spec fields a j) 0 room.spec.simulators i is in
       let parts = and_parts (fields.crashed i) (is_inside room.spec fields i j) at.2 in
-      let some = Any-from_list_any (λ k. eqb (fields.level i j k) 1) (range_with_len 1 room.spec.rounds) parts.1 in
-      let one : fields.level i j some.1 ≡ 1 = eqb-true _ _ some.4 in
+      let one = level_one room.spec fields i j parts.1 in
       let low = at.1 in
-      (omega (arith, low), parts.0, (one_inside room.spec fields (fields_stand room fields limits are).tracks i j some.1 one).process)
+      (omega (arith, low), parts.0, (one_inside room.spec fields (fields_stand room fields limits are).tracks i j one.0 one.1).process)
 
   -- processes on each of which one that has crashed works
   few : (p : ℕ → Bool) → ((j : ℕ) → p j ≡ true → (i : ℕ) × (held_by room.spec fields j ≡ Some i)) → length (filter p (range_with_len 0 (processes room.spec))) ≤ length (crashed_in room.spec fields)

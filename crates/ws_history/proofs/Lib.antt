@@ -1,6 +1,7 @@
 pub mod CallerLemmas
 mod Worked
 mod WorkedPoints
+mod WorkedReductions
 mod Order
 mod Turns
 mod Timed
@@ -13,6 +14,7 @@ mod Sorting
 mod PassedSources
 mod Decisions
 mod Counts
+mod RunSpecs
 mod SourceIs
 mod FixedHistories
 mod Linearized

@@ -1,17 +1,18 @@
 -- The history of a room in the order of time is a run.
 use Rattle.std.proofs.Common.{subst, length, map, List, ◌≡◌, ℕ, ◌<◌, cond, eqb, Bool, true, false, Option, Some, None, refl, sym, ap, ◌∙◌, inl, inr}
 use Rattle.std.proofs.lemmas.Bool.{cases_Bool, eq-eqb, eqb-true}
-use Rattle.room_spec.specs.Rooms.{IsWithinLimits, processes}
+use Rattle.room_spec.specs.Rooms.{IsWithinLimits, RoomSpec, is_reduction, processes}
 use Rattle.transcript.specs.Runs.{IsRun}
 use Rattle.room_core.specs.Calls.{RoomState}
 use Rattle.room_core.specs.Fields.{Fields}
 use Rattle.room_core.specs.Reading.{AreFieldsOf}
-use Rattle.room_core.specs.Agreements.{decided_in, greatest_step}
+use Rattle.room_core.specs.Agreements.{decided_in, greatest_step, run_spec}
 use Rattle.room_core.specs.Points.{AreEffects, points_at}
 use Rattle.room_core.specs.Timelines.{IsTimeline, timeline_of}
 use Rattle.room_core.proofs.CallerLemmas.{effects_at, rooms_agree, timelines}
 use Rattle.ws_history.specs.Sources.{fixed_source_of, source_of, history_of}
 use Rattle.ws_history.specs.Linearizations.{LackAtMostASnapshot, IsLinearization, IsSourceOf, Timed, event_of, events_before, events_in, events_of, linearized}
+use Rattle.ws_history.proofs.RunSpecs.{history_run, low_in_run, ordinary_run, processes_run, rounds_run}
 use Rattle.ws_history.proofs.SourceIs.{is_of_fixed}
 use Rattle.ws_history.proofs.FixedHistories.{history_begins, map_events, same_before}
 use Rattle.ws_history.specs.Histories.{history_from}
@@ -56,16 +57,32 @@ module _ (room : RoomState) (fields : Fields) (limits : IsWithinLimits room.spec
   same_as_fixed : fixed_events ≡ linearized room.spec are.run.schedule fields
   same_as_fixed = same_before _ _ (length are.run.schedule) (λ t. map_events room.spec fields (points_at room.spec are.run.schedule fields t))
 
-  pub linearized_run : IsRun room.spec (linearized room.spec are.run.schedule fields)
+  -- the ordinary room of the run
+  abbrev run : RoomSpec
+  run = run_spec room.spec fields
+
+  timeline_in_run : IsTimeline (processes run) run.rounds (timeline_of room.spec are.run.schedule fields) (points_at room.spec are.run.schedule fields)
+  timeline_in_run =
+      subst (λ (n : ℕ). IsTimeline n run.rounds (timeline_of room.spec are.run.schedule fields) (points_at room.spec are.run.schedule fields)) (sym (processes_run room.spec fields))
+      (subst (λ (r : ℕ). IsTimeline (processes room.spec) r (timeline_of room.spec are.run.schedule fields) (points_at room.spec are.run.schedule fields)) (sym (rounds_run room.spec fields)) (timelines room fields limits are))
+
+  fixed_in_run : IsSourceOf (processes run) (fixed_source_of room.spec fields) (timeline_of room.spec are.run.schedule fields)
+  fixed_in_run = subst (λ (n : ℕ). IsSourceOf n (fixed_source_of room.spec fields) (timeline_of room.spec are.run.schedule fields)) (sym (processes_run room.spec fields)) of_fixed
+
+  pub linearized_run : IsRun (run_spec room.spec fields) (linearized room.spec are.run.schedule fields)
   linearized_run =
-      subst (IsRun room.spec) same_as_fixed
-      (timeline_is_run room.spec (fixed_source_of room.spec fields) (timeline_of room.spec are.run.schedule fields) (points_at room.spec are.run.schedule fields) (is_of_fixed room.spec fields (rooms_agree room fields limits are)) (timelines room fields limits are) of_fixed)
+      subst (IsRun run) same_as_fixed
+      (timeline_is_run run (fixed_source_of room.spec fields) (timeline_of room.spec are.run.schedule fields) (points_at room.spec are.run.schedule fields) (is_of_fixed room.spec fields (rooms_agree room fields limits are)) timeline_in_run fixed_in_run)
+
+  pub ordinary_linearized_run : is_reduction room.spec ≡ false → IsRun room.spec (linearized room.spec are.run.schedule fields)
+  ordinary_linearized_run is = subst (λ (s : RoomSpec). IsRun s (linearized room.spec are.run.schedule fields)) (ordinary_run room.spec fields is) linearized_run
 
   -- each process does what it does in the history of the fixed agreements
   pub linearized_fixed : (p : ℕ) → p < processes room.spec → events_of p (linearized room.spec are.run.schedule fields) ≡ events_of p (history_from room.spec (fixed_source_of room.spec fields))
   linearized_fixed p low =
       ap (events_of p) (sym same_as_fixed)
-      ∙ same_events room.spec (fixed_source_of room.spec fields) (timeline_of room.spec are.run.schedule fields) (points_at room.spec are.run.schedule fields) (is_of_fixed room.spec fields (rooms_agree room fields limits are)) (timelines room fields limits are) of_fixed p low
+      ∙ same_events run (fixed_source_of room.spec fields) (timeline_of room.spec are.run.schedule fields) (points_at room.spec are.run.schedule fields) (is_of_fixed room.spec fields (rooms_agree room fields limits are)) timeline_in_run fixed_in_run p (low_in_run room.spec fields p low)
+      ∙ ap (events_of p) (history_run room.spec fields (fixed_source_of room.spec fields))
 
   pub linearized_events : (p : ℕ) → p < processes room.spec → LackAtMostASnapshot p (events_of p (history_of room.spec fields)) (events_of p (linearized room.spec are.run.schedule fields))
   linearized_events p low =
@@ -83,8 +100,11 @@ module _ (room : RoomState) (fields : Fields) (limits : IsWithinLimits room.spec
       ap (events_in (source_of room.spec fields)) (only_one room.spec are.run.schedule fields (points_at room.spec are.run.schedule fields) room_effects points is)
       ∙ events_are (source_of room.spec fields) (points_at room.spec are.run.schedule fields) (length are.run.schedule)
 
-  pub linearization_run : (points : List Timed) → Linearizes points → IsRun room.spec (events_in (source_of room.spec fields) points)
-  linearization_run points is = subst (IsRun room.spec) (sym (is_linearized points is)) linearized_run
+  pub linearization_run : (points : List Timed) → Linearizes points → IsRun (run_spec room.spec fields) (events_in (source_of room.spec fields) points)
+  linearization_run points is = subst (IsRun run) (sym (is_linearized points is)) linearized_run
+
+  pub ordinary_linearization_run : is_reduction room.spec ≡ false → (points : List Timed) → Linearizes points → IsRun room.spec (events_in (source_of room.spec fields) points)
+  ordinary_linearization_run ordinary points is = subst (IsRun room.spec) (sym (is_linearized points is)) (ordinary_linearized_run ordinary)
 
   pub linearization_events : (points : List Timed) → Linearizes points → (p : ℕ) → p < processes room.spec → LackAtMostASnapshot p (events_of p (history_of room.spec fields)) (events_of p (events_in (source_of room.spec fields) points))
   linearization_events points is p low =

@@ -1,12 +1,12 @@
 -- What is found from notes is the linearization of the schedule that was noted.
-use Rattle.std.proofs.Common.{◌≡◌, ℕ, zero, suc, ◌+◌, ◌<◌, ◌≤◌, Bool, cond, leb, List, [], ◌∷◌, ◌++◌, length, map, fold, get_or, Option, Contains, inl, inr, refl, sym, ap, ◌∙◌, subst, arith}
+use Rattle.std.proofs.Common.{◌≡◌, ℕ, zero, suc, ◌+◌, ◌<◌, ◌≤◌, Bool, false, cond, leb, List, [], ◌∷◌, ◌++◌, length, map, fold, get_or, Option, Contains, inl, inr, refl, sym, ap, ◌∙◌, subst, arith}
 use Rattle.std.specs.List.{range_with_len}
-use Rattle.room_spec.specs.Rooms.{RoomSpec, IsWithinLimits, processes}
+use Rattle.room_spec.specs.Rooms.{RoomSpec, IsWithinLimits, is_reduction, processes}
 use Rattle.sim_memory.proofs.CallerLemmas.{row_length}
 use Rattle.transcript.specs.declared.event.Event.{Event}
 use Rattle.transcript.specs.declared.event.Event.TheVariants.{Write, Snap}
 use Rattle.transcript.specs.Runs.{IsRun}
-use Rattle.room_core.specs.Agreements.{greatest_step, is_fixed, row_at, shown_by, shown_of, view_at}
+use Rattle.room_core.specs.Agreements.{greatest_step, is_fixed, row_at, run_spec, shown_by, shown_of, view_at}
 use Rattle.room_core.specs.Calls.{RoomState, configuration_of, sweep_at}
 use Rattle.room_core.specs.Fields.{Fields, opening_fields, replay_fields}
 use Rattle.room_core.specs.Moments.{fields_at}
@@ -22,11 +22,11 @@ use Rattle.ws_history.specs.Ordered.{all_points, decision_at, decision_points, e
 use Rattle.ws_history.specs.Readings.{read_of}
 use Rattle.ws_history.specs.Sources.{history_of, source_of}
 use Rattle.ws_history.proofs.Agreeing.{same_row, same_value, same_written}
-use Rattle.ws_history.proofs.Linearized.{linearization_events, linearization_run}
+use Rattle.ws_history.proofs.Linearized.{linearization_events, linearization_run, ordinary_linearization_run}
 use Rattle.ws_history.proofs.NotedPoints.{Effective, from_all, into_all}
 use Rattle.ws_history.proofs.Order.{not_empty}
 use Rattle.ws_history.proofs.Placed.{events_folded, from_folded, placed, rising_folded, to_folded}
-use Rattle.ws_history.proofs.RoomFields.{history_in, low_rows}
+use Rattle.ws_history.proofs.RoomFields.{history_in, low_rows, run_in}
 use Rattle.ws_history.proofs.Said.{agree, said_count, said_decided, said_fixed, said_shown}
 use Rattle.ws_history.proofs.Walking.{map_same}
 
@@ -236,8 +236,13 @@ module _ (room : RoomState) (limits : IsWithinLimits room.spec) (schedule : List
   its_events : map (λ (e : ℕ × Event). e.1) (events_by_time room notes) ≡ events_in (source_of room.spec counted_fields) in_order
   its_events = ap (map (λ (e : ℕ × Event). e.1)) events_are ∙ only_events in_order
 
-  pub order_runs : IsRun room.spec (map (λ (e : ℕ × Event). e.1) (events_by_time room notes))
-  order_runs = subst (IsRun room.spec) (sym its_events) (linearization_run room counted_fields limits fields_are in_order aside_linearization)
+  pub order_runs : (fields : Fields) → AreFieldsOf room fields → IsRun (run_spec room.spec fields) (map (λ (e : ℕ × Event). e.1) (events_by_time room notes))
+  order_runs fields fields_of =
+      subst (λ (s : RoomSpec). IsRun s (map (λ (e : ℕ × Event). e.1) (events_by_time room notes))) (sym (run_in room counted_fields limits fields_are) ∙ run_in room fields limits fields_of)
+      (subst (IsRun (run_spec room.spec counted_fields)) (sym its_events) (linearization_run room counted_fields limits fields_are in_order aside_linearization))
+
+  pub ordinary_order_runs : is_reduction room.spec ≡ false → IsRun room.spec (map (λ (e : ℕ × Event). e.1) (events_by_time room notes))
+  ordinary_order_runs is = subst (IsRun room.spec) (sym its_events) (ordinary_linearization_run room counted_fields limits fields_are is in_order aside_linearization)
 
   pub same_of_each : (fields : Fields) → AreFieldsOf room fields → (p : ℕ) → p < processes room.spec → LackAtMostASnapshot p (events_of p (history_of room.spec fields)) (events_of p (map (λ (e : ℕ × Event). e.1) (events_by_time room notes)))
   same_of_each fields fields_of p low =

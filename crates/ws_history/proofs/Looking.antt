@@ -2,12 +2,12 @@
 use Rattle.std.proofs.Common.{◌≡◌, ℕ, ◌<◌, ◌≤◌, true, refl, ap, ◌∙◌, subst, arith}
 use Rattle.std.proofs.Math.ListN.{get_or-map}
 use Rattle.room_spec.specs.Rooms.{RoomSpec}
-use Rattle.room_spec.specs.Sizes.{sizes_in}
+use Rattle.room_spec.specs.Sizes.{Sizes, sizes_in}
 use Rattle.view_table.proofs.CallerLemmas.{memory_first}
 use Rattle.simulator.specs.declared.goal.Goal.{Goal}
 use Rattle.simulator.specs.declared.goal.Goal.TheVariants as goals
 use Rattle.simulator.specs.declared.line.Line.{Line}
-use Rattle.simulator.specs.declared.line.Line.TheVariants.{Rest, Raise, Snap, Show, Enter, Look, Leave, Ask, GetView, Values, Out}
+use Rattle.simulator.specs.declared.line.Line.TheVariants.{Rest, Raise, Snap, Show, Enter, Look, Leave, Ask, GetInput, GetView, Values, Out}
 use Rattle.simulator.specs.declared.operation.Move.TheVariants.{Load}
 use Rattle.simulator.specs.Minds.{MindState, current_round, goal_at, round_of}
 use Rattle.simulator.specs.Moves.{move_at, move_of}
@@ -22,14 +22,16 @@ use Rattle.room_core.proofs.CallerLemmas.{steps_within}
 pub mind_is : (room : RoomState) (i : ℕ) → mind_at (configuration_of room) i ≡ (sweep_at room i).mind
 mind_is room i = get_or-map (λ (sweep : SweepState). sweep.mind) room.sweeps i (opening_sweep room.spec i)
 
-pub goal_low : (rounds : ℕ) (goal : Goal) → IsGoal rounds goal → round_of goal ≤ rounds
-goal_low rounds (goals.Write round value) is = is.1
-goal_low rounds (goals.Ask round) is = is.1
-goal_low rounds goals.Done is = omega arith
-goal_low rounds goals.Spent is = omega arith
+pub goal_low : (sizes : Sizes) (goal : Goal) → IsGoal sizes goal → round_of goal ≤ sizes.rounds
+goal_low sizes (goals.Write round value) is = is.1
+goal_low sizes (goals.Ask round) is = is.1
+goal_low sizes (goals.Propose value) is = omega arith
+goal_low sizes goals.AskInput is = omega arith
+goal_low sizes goals.Done is = omega arith
+goal_low sizes goals.Spent is = omega arith
 
 pub round_low : (spec : RoomSpec) (mind : MindState) → IsMind spec mind → current_round mind ≤ spec.rounds
-round_low spec mind is = goal_low spec.rounds (goal_at mind.goals mind.process) (is.rounds mind.process is.process)
+round_low spec mind is = goal_low (sizes_in spec) (goal_at mind.goals mind.process) (is.rounds mind.process is.process)
 
 -- a simulator takes few steps
 pub steps_low : (spec : RoomSpec) (mind : MindState) → IsMind spec mind → mind.steps ≤ 4294967294
@@ -44,6 +46,7 @@ snap_line Enter is = absurd cc
 snap_line Look is = absurd cc
 snap_line (Leave saw_two) is = absurd cc
 snap_line Ask is = absurd cc
+snap_line (GetInput chosen) is = absurd cc
 snap_line (GetView chosen) is = absurd cc
 snap_line Values is = absurd cc
 snap_line (Out decision) is = absurd cc

@@ -7,10 +7,9 @@ use Rattle.std.proofs.Math.ListN.{get_or-replicate}
 use Rattle.std.proofs.lemmas.Nat.{mul-add-lt, same_from_place}
 use Rattle.room_spec.specs.Rooms.{RoomSpec, IsWithinLimits, processes}
 use Rattle.simulator.specs.declared.line.Line.{Line}
-use Rattle.simulator.specs.declared.line.Line.TheVariants.{Rest, Raise, Snap, Show, Enter, Look, Leave, Ask, GetView, Values, Out}
+use Rattle.simulator.specs.declared.line.Line.TheVariants.{Rest, Raise, Snap, Show, Enter, Look, Leave, Ask, GetInput, GetView, Values, Out}
 use Rattle.simulator.specs.Minds.{current_round}
 use Rattle.simulator.specs.Ranges.{IsMind}
-use Rattle.simulator.specs.Sweeps.{is_resting}
 use Rattle.simulator.specs.Turns.{words_in}
 use Rattle.room_core.specs.Agreements.{greatest_step, has_out}
 use Rattle.room_core.specs.Calls.{RoomState, configuration_of, moved, room_after_step, step_reply, sweep_at}
@@ -21,10 +20,10 @@ use Rattle.room_core.specs.Fields.{Fields, opening_fields, replay_fields}
 use Rattle.room_core.specs.Moments.{fields_at}
 use Rattle.room_core.specs.Points.{is_snap, is_step_of, last_read, last_when, reads_at, reads_in}
 use Rattle.room_core.specs.Rooms.{Configuration, HasLine, IsAlive, IsLegal, IsOneInterleaving, IsShaped, ScheduleEvent, crashed_by, crashes, opening, replay, stepped, steps}
-use Rattle.room_core.proofs.CallerLemmas.{at_before, at_end, events_are, last_now, last_same, left_alone, length-snoc, moved_data, replay_fields-snoc, shapes, slice_get-push, taken_line, taken_moves, under_crash_at_end, under_line_at_end}
+use Rattle.room_core.proofs.CallerLemmas.{at_before, at_end, events_are, last_now, last_same, left_uncounted, left_unstored, length-snoc, moved_data, replay_fields-snoc, shapes, slice_get-push, taken_line, taken_moves, under_crash_at_end, under_line_at_end}
 use Rattle.ws_history.specs.declared.points.Before.{Before}
 use Rattle.ws_history.specs.Notes.{AreNotesOf, IsNoted, Notes, counted_at, counts_in, events_taken, last_by, place, read_at, stored_at, stores_in}
-use Rattle.ws_history.specs.Noting.{before_step, looked, noted, noted_if, noted_step}
+use Rattle.ws_history.specs.Noting.{before_step, looked, may_take_effect, noted, noted_if, noted_step}
 use Rattle.ws_history.specs.Readings.{read_of}
 use Rattle.ws_history.proofs.Looking.{mind_is, round_low}
 use Rattle.ws_history.proofs.RoomFields.{low_greatest}
@@ -79,18 +78,25 @@ pub both_true : (b c : Bool) → b ≡ true → c ≡ true → b && c ≡ true
 both_true true c is is' = is'
 both_true false c is is' = absurd cc
 
-pub resting_is : (line : Line) → is_resting line ≡ true → line ≡ Rest
-resting_is Rest is = refl
-resting_is Raise is = absurd cc
-resting_is Snap is = absurd cc
-resting_is Show is = absurd cc
-resting_is Enter is = absurd cc
-resting_is Look is = absurd cc
-resting_is (Leave saw_two) is = absurd cc
-resting_is Ask is = absurd cc
-resting_is (GetView chosen) is = absurd cc
-resting_is Values is = absurd cc
-resting_is (Out decision) is = absurd cc
+pub no_snap : (line : Line) → may_take_effect line ≡ false → is_snap line ≡ false
+no_snap Rest is = refl
+no_snap Raise is = absurd cc
+no_snap Snap is = absurd cc
+no_snap Show is = refl
+no_snap Enter is = refl
+no_snap Look is = refl
+no_snap (Leave saw_two) is = refl
+no_snap Ask is = refl
+no_snap (GetInput chosen) is = refl
+no_snap (GetView chosen) is = refl
+no_snap Values is = refl
+no_snap (Out decision) is = absurd cc
+
+pub no_raise : (line : Line) → may_take_effect line ≡ false → line ≢ Raise
+no_raise line is raises = let wrong : true ≡ false = sym (ap may_take_effect raises) ∙ is in cc
+
+pub no_out : (line : Line) → may_take_effect line ≡ false → (decision : ℕ) → line ≢ Out decision
+no_out line is decision stores = let wrong : true ≡ false = sym (ap may_take_effect stores) ∙ is in cc
 
 -- ---- the tests, as facts
 
@@ -176,11 +182,11 @@ module _ (room : RoomState) (i : ℕ) (limits : IsWithinLimits room.spec) (sched
   time_is : events_so_far (configuration_of room) ≡ length schedule
   time_is = sym (events_are (configuration_of room) limits one)
 
-  apart_count : (p : ℕ) → ((F.mind i).line ≡ Rest) ⊎ (p ≢ (F.mind i).process) → greatest_step room.spec F' p ≡ greatest_step room.spec F p
-  apart_count p apart = (left_alone (configuration_of room) limits one i may p apart).0
+  apart_count : (p : ℕ) → ((F.mind i).line ≢ Raise) ⊎ (p ≢ (F.mind i).process) → greatest_step room.spec F' p ≡ greatest_step room.spec F p
+  apart_count p why = left_uncounted (configuration_of room) limits one i may p why
 
-  apart_out : (p : ℕ) → ((F.mind i).line ≡ Rest) ⊎ (p ≢ (F.mind i).process) → has_out room.spec F' p ≡ has_out room.spec F p
-  apart_out p apart = (left_alone (configuration_of room) limits one i may p apart).1
+  apart_out : (p : ℕ) → ((decision : ℕ) → (F.mind i).line ≢ Out decision) ⊎ (p ≢ (F.mind i).process) → has_out room.spec F' p ≡ has_out room.spec F p
+  apart_out p why = left_unstored (configuration_of room) limits one i may p why
 
   -- what the notes have to be after it
   abbrev Counted : Notes → Type 0
@@ -204,21 +210,21 @@ module _ (room : RoomState) (i : ℕ) (limits : IsWithinLimits room.spec) (sched
     stored = λ p low. stored p low ∙ sym (last_by_more room.spec schedule (steps i) (stores_in room.spec p));
   }
 
-  -- between two turns
-  resting : is_resting (sweep_at room i).mind.line ≡ true → AreNotesOf (configuration_of (moved room i)) (schedule ++ steps i ∷ []) old
-  resting is =
-      let rest : (F.mind i).line ≡ Rest = sym said.line ∙ resting_is (sweep_at room i).mind.line is in
+  -- at a line by whose step nothing takes effect
+  elsewhere : may_take_effect (sweep_at room i).mind.line ≡ false → AreNotesOf (configuration_of (moved room i)) (schedule ++ steps i ∷ []) old
+  elsewhere is =
+      let none : may_take_effect (F.mind i).line ≡ false = sym (ap may_take_effect said.line) ∙ is in
       notes_by old refl refl refl
-      (λ p r low few. are.counted p r low few ∙ sym (ap (λ (b : Bool). cond b (length schedule) (last_by room.spec schedule (counts_in room.spec p r))) (no_count room.spec F F' p r (apart_count p (inl rest)))))
-      (λ a p r less low few. are.read a p r less low few ∙ sym (ap (λ (b : Bool). cond b (length schedule) (last_read room.spec schedule a p r (length schedule))) (not_read a p r rest)))
-      (λ p low. are.stored p low ∙ sym (ap (λ (b : Bool). cond b (length schedule) (last_by room.spec schedule (stores_in room.spec p))) (no_store room.spec F F' p (apart_out p (inl rest)))))
+      (λ p r low few. are.counted p r low few ∙ sym (ap (λ (b : Bool). cond b (length schedule) (last_by room.spec schedule (counts_in room.spec p r))) (no_count room.spec F F' p r (apart_count p (inl (no_raise (F.mind i).line none))))))
+      (λ a p r less low few. are.read a p r less low few ∙ sym (ap (λ (b : Bool). cond b (length schedule) (last_read room.spec schedule a p r (length schedule))) (not_read a p r none)))
+      (λ p low. are.stored p low ∙ sym (ap (λ (b : Bool). cond b (length schedule) (last_by room.spec schedule (stores_in room.spec p))) (no_store room.spec F F' p (apart_out p (inl (no_out (F.mind i).line none))))))
     where
-      not_read : (a p r : ℕ) → (F.mind i).line ≡ Rest → eqb i a && reads_in room.spec F F' a p r ≡ false
-      not_read a p r rest = not_true_of (eqb i a && reads_in room.spec F F' a p r) (λ is.
+      not_read : (a p r : ℕ) → may_take_effect (F.mind i).line ≡ false → eqb i a && reads_in room.spec F F' a p r ≡ false
+      not_read a p r none = not_true_of (eqb i a && reads_in room.spec F F' a p r) (λ is.
           let parts = and_parts (eqb i a) (reads_in room.spec F F' a p r) is in
           let who : i ≡ a = eqb-true i a parts.0 in
           let snap = (read_parts room.spec F F' a p r parts.1).0 in
-          let wrong : true ≡ false = sym snap ∙ ap (λ (b : ℕ). is_snap (F.mind b).line) (sym who) ∙ ap is_snap rest in cc)
+          let wrong : true ≡ false = sym snap ∙ ap (λ (b : ℕ). is_snap (F.mind b).line) (sym who) ∙ no_snap (F.mind i).line none in cc)
 
   -- inside a turn
   module _ (process : j < processes room.spec) (round : current_round (sweep_at room i).mind ≤ room.spec.rounds) where
@@ -393,13 +399,13 @@ step_noted room i old limits stepped = λ schedule are.
     let may = taken_line room i shape stepped in
     let low = mind_low room i shape may.alive.below in
     subst (λ (after : RoomState). AreNotesOf (configuration_of after) (schedule ++ steps i ∷ []) (noted_if after i (looked room i) old)) (sym (taken_moves room i stepped))
-    (subst (λ (b : Bool). AreNotesOf (configuration_of (moved room i)) (schedule ++ steps i ∷ []) (noted_if (moved room i) i (cond (b || is_resting (sweep_at room i).mind.line) None (Some (before_step room i))) old)) (sym (lt-leb room.spec.simulators i may.alive.below))
-    (by_line schedule are may low (is_resting (sweep_at room i).mind.line) refl))
+    (subst (λ (b : Bool). AreNotesOf (configuration_of (moved room i)) (schedule ++ steps i ∷ []) (noted_if (moved room i) i (cond (b || not (may_take_effect (sweep_at room i).mind.line)) None (Some (before_step room i))) old)) (sym (lt-leb room.spec.simulators i may.alive.below))
+    (by_line schedule are may low (may_take_effect (sweep_at room i).mind.line) refl))
   where
-    by_line : (schedule : List ScheduleEvent) (are : AreNotesOf (configuration_of room) schedule old) → HasLine (configuration_of room) i → ((sweep_at room i).mind.process < processes room.spec) × (current_round (sweep_at room i).mind ≤ room.spec.rounds) → (b : Bool) → is_resting (sweep_at room i).mind.line ≡ b
-        → AreNotesOf (configuration_of (moved room i)) (schedule ++ steps i ∷ []) (noted_if (moved room i) i (cond b None (Some (before_step room i))) old)
-    by_line schedule are may low true rest = resting room i limits schedule old are may rest
-    by_line schedule are may low false going = turning room i limits schedule old are may low.0 low.1
+    by_line : (schedule : List ScheduleEvent) (are : AreNotesOf (configuration_of room) schedule old) → HasLine (configuration_of room) i → ((sweep_at room i).mind.process < processes room.spec) × (current_round (sweep_at room i).mind ≤ room.spec.rounds) → (b : Bool) → may_take_effect (sweep_at room i).mind.line ≡ b
+        → AreNotesOf (configuration_of (moved room i)) (schedule ++ steps i ∷ []) (noted_if (moved room i) i (cond (not b) None (Some (before_step room i))) old)
+    by_line schedule are may low true may_be = turning room i limits schedule old are may low.0 low.1
+    by_line schedule are may low false none = elsewhere room i limits schedule old are may none
 
 -- as the code does it
 pub seen_step : (room : RoomState) (i : ℕ) (old new : Notes) (before : Before) → IsWithinLimits room.spec → step_reply room i ≡ Stepped → looked room i ≡ Some before → new ≡ noted (room_after_step room i) i before old → IsNoted old room i new

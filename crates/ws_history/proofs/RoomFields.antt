@@ -1,24 +1,26 @@
 -- What a room reads as is what any fields say that it stands for.
-use Rattle.std.proofs.Common.{◌≡◌, ℕ, ◌+◌, ◌<◌, ◌≤◌, List, get_or, min, sum, Contains, ap, sym, subst, ◌∙◌, arith}
+use Rattle.std.proofs.Common.{◌≡◌, ℕ, ◌+◌, ◌<◌, ◌≤◌, true, List, get_or, min, sum, Contains, ap, sym, subst, ◌∙◌, arith}
+use Rattle.std.proofs.lemmas.Bool.{or_left}
 use Rattle.protocol_lang.specs.Numbers.{greatest}
-use Rattle.room_spec.specs.Rooms.{IsWithinLimits, processes}
+use Rattle.room_spec.specs.Rooms.{IsWithinLimits, RoomSpec, is_reduction, processes}
 use Rattle.room_spec.specs.Sizes.{sizes_in}
 use Rattle.view_table.specs.declared.place.Place.TheVariants as places
 use Rattle.sim_memory.specs.Steps.{step_in}
 use Rattle.sim_memory.proofs.CallerLemmas.{merged_below, step_below}
-use Rattle.room_core.specs.Agreements.{greatest_step, is_passed, row_at, shown_of}
+use Rattle.room_core.specs.Agreements.{HasAgreed, agreed_input, greatest_step, is_clean, is_input_known, is_passed, row_at, run_spec, shown_of}
 use Rattle.room_core.specs.Calls.{RoomState}
 use Rattle.room_core.specs.Fields.{Fields}
 use Rattle.room_core.specs.Reading.{AgreeIn, AreFieldsOf, words_from}
-use Rattle.room_core.proofs.CallerLemmas.{agrees, fields_low, out_low, rooms_agree}
+use Rattle.room_core.proofs.CallerLemmas.{agrees, fields_low, out_low, rooms_agree, written_known}
 use Rattle.ws_history.specs.Histories.{Snapshot}
 use Rattle.ws_history.specs.Orders.{all_passed}
 use Rattle.ws_history.specs.Readings.{read_of}
 use Rattle.ws_history.specs.Sources.{history_of, source_of}
 use Rattle.ws_history.specs.Unreadable.{unreadable_of}
-use Rattle.ws_history.proofs.Agreeing.{same_passed, same_row}
+use Rattle.ws_history.proofs.Agreeing.{same_agreed, same_clean, same_known, same_passed, same_row, same_run}
 use Rattle.ws_history.proofs.PassedSources.{apart}
 use Rattle.ws_history.proofs.Ranges.{row_low}
+use Rattle.ws_history.proofs.RunSpecs.{processes_run, rounds_run}
 use Rattle.room_core.specs.Settled.{crashed_in}
 use Rattle.ws_history.specs.Reports.{states_of}
 use Rattle.ws_history.proofs.SameHistories.{same_all_passed, same_history}
@@ -26,6 +28,13 @@ use Rattle.ws_history.proofs.Sorting.{AreApart, from_passed}
 use Rattle.ws_history.proofs.SourceIs.{is_of_passed}
 use Rattle.ws_history.proofs.Unreadables.{same_unreadable}
 use Rattle.ws_history.proofs.SameReports.{same_crashed, same_states}
+
+-- what is apart in the ordinary room of the run
+apart_of : (spec : RoomSpec) (fields : Fields) → HasAgreed spec fields → AreApart (source_of spec fields) (all_passed (is_passed spec fields) (processes spec) spec.rounds)
+apart_of spec fields has =
+    subst (λ (n : ℕ). AreApart (source_of spec fields) (all_passed (is_passed spec fields) n spec.rounds)) (processes_run spec fields)
+    (subst (λ (r : ℕ). AreApart (source_of spec fields) (all_passed (is_passed spec fields) (processes (run_spec spec fields)) r)) (rounds_run spec fields)
+    (apart (run_spec spec fields) (source_of spec fields) (is_passed spec fields) (is_of_passed spec fields has)))
 
 smaller : (x most : ℕ) → x ≤ most → min x most ≡ x
 smaller x most low = omega arith
@@ -66,7 +75,7 @@ module _ (room : RoomState) where
       let lists = same_all_passed (is_passed room.spec read) (is_passed room.spec fields) n rounds (λ p k. same_passed room.spec read fields some agree p k) in
       let sum_in : (u : Snapshot) → Contains (all_passed (is_passed room.spec read) n rounds) u → sum (row_at room.spec read u.process u.round) ≡ sum (row_at room.spec fields u.process u.round) =
       λ u has. let is = from_passed (is_passed room.spec read) n rounds u has in ap sum (same_row room.spec read fields some agree u.process u.round is.process is.positive is.within) in
-      apart room.spec (source_of room.spec fields) (is_passed room.spec fields) (is_of_passed room.spec fields (rooms_agree room fields limits are)) s t
+      apart_of room.spec fields (rooms_agree room fields limits are) s t
       (subst (λ (l : List Snapshot). Contains l s) lists has_s) (subst (λ (l : List Snapshot). Contains l t) lists has_t)
       (sym (sum_in s has_s) ∙ sums ∙ sum_in t has_t) same
 
@@ -74,6 +83,30 @@ module _ (room : RoomState) where
   history_in fields limits are =
       let some = limits.shape.m_range.0 in
       same_history room.spec (read_of room) fields (omega arith) (read_agrees fields limits are) low_rows low_greatest
+
+  pub agreed_in : (fields : Fields) → IsWithinLimits room.spec → AreFieldsOf room fields → (j : ℕ) → j < processes room.spec → agreed_input room.spec (read_of room) j ≡ agreed_input room.spec fields j
+  agreed_in fields limits are j low =
+      let some = limits.shape.m_range.0 in
+      same_agreed room.spec (read_of room) fields (omega arith) (read_agrees fields limits are) j low
+
+  pub run_in : (fields : Fields) → IsWithinLimits room.spec → AreFieldsOf room fields → run_spec room.spec (read_of room) ≡ run_spec room.spec fields
+  run_in fields limits are =
+      let some = limits.shape.m_range.0 in
+      same_run room.spec (read_of room) fields (omega arith) (read_agrees fields limits are)
+
+  -- once the agreement on its last snapshot can be read its input is known
+  pub clean_knows : (fields : Fields) → IsWithinLimits room.spec → AreFieldsOf room fields → (j : ℕ) → j < processes room.spec → is_reduction room.spec ≡ true → is_clean room.spec (read_of room) j room.spec.rounds ≡ true → is_input_known room.spec (read_of room) j ≡ true
+  clean_knows fields limits are j low kind clean =
+      let first = limits.shape.rounds_range.0 in
+      let some = limits.shape.m_range.0 in
+      let agree = read_agrees fields limits are in
+      let has = rooms_agree room fields limits are in
+      let last : room.spec.rounds ≤ room.spec.rounds = omega arith in
+      let there : is_clean room.spec fields j room.spec.rounds ≡ true = sym (same_clean room.spec (read_of room) fields (omega arith) agree j room.spec.rounds low first last) ∙ clean in
+      let fixed = has.passed_is_fixed j room.spec.rounds low first (or_left _ _ (or_left _ _ there)) in
+      let own = has.own_entry_is_exact j room.spec.rounds low first last fixed in
+      let counted = has.row_is_within j room.spec.rounds j low first last fixed low in
+      same_known room.spec (read_of room) fields (omega arith) agree j ∙ written_known room fields limits are j kind (omega (arith, first, own, counted))
 
   pub states_in : (fields : Fields) → IsWithinLimits room.spec → AreFieldsOf room fields → states_of room.spec (read_of room) ≡ states_of room.spec fields
   states_in fields limits are =

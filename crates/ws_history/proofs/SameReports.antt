@@ -1,15 +1,17 @@
 -- Fields that are the same at each simulator, process and round have the same report.
-use Rattle.std.proofs.Common.{◌≡◌, ℕ, zero, suc, ◌+◌, ◌<◌, ◌≤◌, Bool, cond, List, ◌∷◌, get_or, Option, Some, refl, ap, ◌∙◌, arith}
+use Rattle.std.proofs.Common.{◌≡◌, ℕ, zero, suc, ◌+◌, ◌<◌, ◌≤◌, Bool, cond, List, ◌∷◌, get_or, Option, Some, refl, sym, inl, inr, ap, ◌∙◌, arith}
 use Rattle.std.specs.Prelude.{◌&&◌, ◌||◌, ◌==◌}
+use Rattle.std.proofs.lemmas.Bool.{cases_Bool}
+use Rattle.view_table.proofs.CallerLemmas.{agreement_round, zero_agreed}
 use Rattle.std.specs.List.{filter, find, list_any, range_with_len}
 use Rattle.protocol_lang.specs.declared.meaning.Action.{Action}
-use Rattle.room_spec.specs.Rooms.{RoomSpec, processes}
+use Rattle.room_spec.specs.Rooms.{RoomSpec, is_reduction, processes}
 use Rattle.room_spec.specs.Sizes.{sizes_in}
 use Rattle.room_core.specs.Agreements.{asks, decided_in, is_clean, row_at}
 use Rattle.room_core.specs.Fields.{Fields}
 use Rattle.room_core.specs.Reading.{AgreeIn}
 use Rattle.room_core.specs.Settled.{crashed_in, is_write}
-use Rattle.ws_history.specs.Reports.{held_by, is_inside, is_spent, state_by, state_of, states_of}
+use Rattle.ws_history.specs.Reports.{held_by, is_inside, is_inside_input, is_spent, state_by, state_of, states_of}
 use Rattle.ws_history.proofs.Agreeing.{same_asks, same_clean, same_decided}
 use Rattle.ws_history.proofs.Walking.{map_same}
 
@@ -35,7 +37,15 @@ module _ (spec : RoomSpec) (F G : Fields) (some : 0 < spec.simulators) (rounds :
     (low : (j k p : ℕ) → get_or (row_at spec F j k) p 0 ≤ spec.rounds) where
   same_inside : (i j : ℕ) → i < spec.simulators → j < processes spec → is_inside spec F i j ≡ is_inside spec G i j
   same_inside i j simulator process =
-      any_same _ _ 1 spec.rounds (λ k least most. ap (λ (x : ℕ). x == 1) (agree.level i j k simulator process (least, omega arith)))
+      ap (λ (b : Bool). b || list_any (λ k. F.level i j k == 1) (range_with_len 1 spec.rounds)) same_inside_input
+      ∙ ap (λ (b : Bool). is_inside_input spec G i j || b)
+      (any_same _ _ 1 spec.rounds (λ k least most. ap (λ (x : ℕ). x == 1) (agree.level i j k simulator process (agreement_round (sizes_in spec) k (least, omega arith)))))
+    where
+      same_inside_input : is_inside_input spec F i j ≡ is_inside_input spec G i j
+      same_inside_input = elim (cases_Bool (is_reduction spec)) [
+        | inl is ↦ ap (λ (x : ℕ). is_reduction spec && (x == 1)) (agree.level i j 0 simulator process (zero_agreed (sizes_in spec) is))
+        | inr is ↦ ap (λ (b : Bool). b && (F.level i j 0 == 1)) is ∙ sym (ap (λ (b : Bool). b && (G.level i j 0 == 1)) is)
+      ]
 
   same_held : (j : ℕ) → j < processes spec → held_by spec F j ≡ held_by spec G j
   same_held j process =

@@ -7,12 +7,12 @@ use Rattle.std.proofs.lemmas.Bool.{cases_Bool, and_from, eq-eqb, or_left, or_rig
 use Rattle.std.proofs.lemmas.List.Sums.{sum_by-cons}
 use mathlib.Core.Logic.{dite}
 use native.Mathlib.Decide.{ℕ_discrete}
-use Rattle.room_spec.specs.Rooms.{RoomSpec, IsWithinLimits, processes}
+use Rattle.room_spec.specs.Rooms.{RoomSpec, IsWithinLimits, is_reduction, processes}
 use Rattle.room_core.specs.Calls.{RoomState}
 use Rattle.room_core.specs.Fields.{Fields}
 use Rattle.room_core.specs.Reading.{AreFieldsOf}
 use Rattle.room_core.specs.Agreements.{decided_in, is_clean, is_out, outs_at}
-use Rattle.room_core.specs.Settled.{IsSettledFor, decided, spent, held, crashed_in, is_write}
+use Rattle.room_core.specs.Settled.{IsSettledFor, decided, spent, held, held_input, crashed_in, is_write}
 use Rattle.ws_history.specs.declared.states.ProcessState.{ProcessState}
 use Rattle.ws_history.specs.Reports.{held_by, is_held, is_inside, is_over, is_spent, state_by, state_of, states_of}
 use Rattle.ws_history.proofs.Held.{held_at_most}
@@ -51,16 +51,21 @@ plain_held None true holder i is = refl
 plain_held None false (Some h) i is = refl
 plain_held None false None i is = absurd cc
 
+plain_inside : (spec : RoomSpec) (fields : Fields) (i j : ℕ) → i < spec.simulators → fields.crashed i ≡ true → is_inside spec fields i j ≡ true → IsPlain (state_of spec fields j)
+plain_inside spec fields i j below crashed inside =
+    let there = range_any (λ a. fields.crashed a && is_inside spec fields a j) 0 spec.simulators i (omega arith) (omega arith) (and_from (fields.crashed i) (is_inside spec fields i j) crashed inside) in
+    let holder = any_found (λ a. fields.crashed a && is_inside spec fields a j) (range_with_len 0 spec.simulators) there in
+    plain_held (decided_in spec fields j) (is_spent spec fields j) (held_by spec fields j) holder.0 holder.1
+
 plain : (spec : RoomSpec) (fields : Fields) (j : ℕ) → IsSettledFor spec fields j → IsPlain (state_of spec fields j)
 plain spec fields j (decided has) =
     let first = any_found is_out (outs_at spec fields j) has in
     plain_out (decided_in spec fields j) (is_spent spec fields j) (held_by spec fields j) (first.0 - 1) (ap (λ (out : Option ℕ). option_map (λ o. o - 1) out) first.1)
 plain spec fields j (spent value clean write) = plain_spent (decided_in spec fields j) (is_spent spec fields j) (held_by spec fields j) (and_from (is_clean spec fields j spec.rounds) _ clean (ap is_write write))
 plain spec fields j (held i k below crashed first last one) =
-    let inside : is_inside spec fields i j ≡ true = range_any (λ r. eqb (fields.level i j r) 1) 1 spec.rounds k first (omega arith) (eq-eqb (fields.level i j k) 1 one) in
-    let there = range_any (λ a. fields.crashed a && is_inside spec fields a j) 0 spec.simulators i (omega arith) (omega arith) (and_from (fields.crashed i) (is_inside spec fields i j) crashed inside) in
-    let holder = any_found (λ a. fields.crashed a && is_inside spec fields a j) (range_with_len 0 spec.simulators) there in
-    plain_held (decided_in spec fields j) (is_spent spec fields j) (held_by spec fields j) holder.0 holder.1
+    plain_inside spec fields i j below crashed (or_right _ _ (range_any (λ r. eqb (fields.level i j r) 1) 1 spec.rounds k first (omega arith) (eq-eqb (fields.level i j k) 1 one)))
+plain spec fields j (held_input i is below crashed one) =
+    plain_inside spec fields i j below crashed (or_left _ _ (and_from (is_reduction spec) _ is (eq-eqb (fields.level i j 0) 1 one)))
 
 at_least_one : (a b : Bool) → (a || b) ≡ true → 1 ≤ cond a 1 0 + cond b 1 0
 at_least_one true b is = omega arith

@@ -1,10 +1,11 @@
 -- What the simulators have decided is among what the processes of the history have, so a task that these keep they keep.
-use Rattle.std.proofs.Common.{◌≡◌, ◌⊎◌, ℕ, zero, suc, ◌+◌, ◌<◌, ◌≤◌, List, [], ◌∷◌, ◌++◌, length, get_or, take, Contains, Option, Some, None, inl, inr, refl, sym, ap, ◌∙◌, subst, arith}
+use Rattle.std.proofs.Common.{◌≡◌, ◌⊎◌, ℕ, true, false, zero, suc, ◌+◌, ◌<◌, ◌≤◌, List, [], ◌∷◌, ◌++◌, length, get_or, take, Contains, Option, Some, None, inl, inr, refl, sym, ap, ◌∙◌, subst, arith}
 use Rattle.std.specs.Prelude.{slice_get}
 use Rattle.std.specs.List.{cons_option, filter_map, range_with_len}
-use Rattle.std.proofs.lemmas.List.{take_all, take_more}
+use Rattle.std.proofs.lemmas.List.{get_or_default, take_all, take_more}
 use Rattle.std.proofs.lemmas.Option.{slice_get-get_or}
-use Rattle.room_spec.specs.Rooms.{IsCertified, RoomSpec, IsWithinLimits}
+use Rattle.room_spec.specs.Rooms.{IsCertified, RoomSpec, IsWithinLimits, is_reduction, processes, with_inputs}
+use Rattle.transcript.specs.Reductions.{IsRunOf}
 use Rattle.transcript.specs.Runs.{IsRun}
 use Rattle.transcript.specs.Tasks.{KeepsTask, decided_by, decided_in, different}
 use Rattle.transcript.specs.declared.event.Event.{Event}
@@ -14,11 +15,12 @@ use Rattle.room_core.specs.Calls.{RoomState}
 use Rattle.room_core.specs.Fields.{Fields, decision_in}
 use Rattle.room_core.specs.Reading.{AreFieldsOf}
 use Rattle.room_core.proofs.CallerLemmas.{rooms_agree}
+use Rattle.ws_history.specs.Inputs.{DoRunsKeepTask}
 use Rattle.ws_history.specs.Reports.{decisions_in}
 use Rattle.ws_history.specs.Sources.{history_of}
 use Rattle.ws_history.proofs.Deciders.{decided_by_process}
 use Rattle.ws_history.proofs.Order.{cons_cases, not_empty}
-use Rattle.ws_history.proofs.SourceIs.{fields_run}
+use Rattle.ws_history.proofs.SourceIs.{ordinary_fields_run, reduction_fields_run}
 
 -- ---- lists of values
 
@@ -100,14 +102,43 @@ module _ (room : RoomState) (fields : Fields) (limits : IsWithinLimits room.spec
   no_more_values =
       few_different (decisions_in room.spec fields) (different (decided_in (history_of room.spec fields))) (λ v at. in_different v (decided_in (history_of room.spec fields)) (of_history v at))
 
-  pub within_task : (most : ℕ) → KeepsTask room.spec most (history_of room.spec fields) → (length (different (decisions_in room.spec fields)) ≤ most) × ((v : ℕ) → Contains (decisions_in room.spec fields) v → Contains room.spec.inputs v)
-  within_task most keeps =
-      let is = allowed room.spec most (history_of room.spec fields) keeps in
+  -- by a task that the history keeps with some inputs
+  within_task_of : (spec : RoomSpec) (most : ℕ) → KeepsTask spec most (history_of room.spec fields) → (length (different (decisions_in room.spec fields)) ≤ most) × ((v : ℕ) → Contains (decisions_in room.spec fields) v → Contains spec.inputs v)
+  within_task_of spec most keeps =
+      let is = allowed spec most (history_of room.spec fields) keeps in
       (omega (arith, no_more_values, is.few), λ v has. is.inputs v (of_history v (contains_in v (decisions_in room.spec fields) has)))
 
-  pub within_bound : (f : ℕ) → IsCertified room.spec f → (length (different (decisions_in room.spec fields)) ≤ f + 1) × ((v : ℕ) → Contains (decisions_in room.spec fields) v → Contains room.spec.inputs v)
-  within_bound f certified =
+  pub within_task : (most : ℕ) → KeepsTask room.spec most (history_of room.spec fields) → (length (different (decisions_in room.spec fields)) ≤ most) × ((v : ℕ) → Contains (decisions_in room.spec fields) v → Contains room.spec.inputs v)
+  within_task = within_task_of room.spec
+
+  within_bound_of : (spec : RoomSpec) → IsRun spec (history_of room.spec fields) → (f : ℕ) → IsCertified spec f → (length (different (decisions_in room.spec fields)) ≤ f + 1) × ((v : ℕ) → Contains (decisions_in room.spec fields) v → Contains spec.inputs v)
+  within_bound_of spec run f certified =
       let events = history_of room.spec fields in
-      let run : IsRun room.spec events = fields_run room.spec fields (rooms_agree room fields limits are) in
-      let few = decides_few room.spec f events certified run in
-      (omega (arith, few, no_more_values), λ v has. decides_inputs room.spec f events certified run v (in_contains v (decided_in events) (of_history v (contains_in v (decisions_in room.spec fields) has))))
+      let few = decides_few spec f events certified run in
+      (omega (arith, few, no_more_values), λ v has. decides_inputs spec f events certified run v (in_contains v (decided_in events) (of_history v (contains_in v (decisions_in room.spec fields) has))))
+
+  pub within_bound : is_reduction room.spec ≡ false → (f : ℕ) → IsCertified room.spec f → (length (different (decisions_in room.spec fields)) ≤ f + 1) × ((v : ℕ) → Contains (decisions_in room.spec fields) v → Contains room.spec.inputs v)
+  within_bound is = within_bound_of room.spec (ordinary_fields_run room.spec fields is (rooms_agree room fields limits are))
+
+  -- ---- in a reduction
+
+  module _ (is : is_reduction room.spec ≡ true) where
+    is_run : IsRunOf room.spec (history_of room.spec fields)
+    is_run = reduction_fields_run room.spec fields is (rooms_agree room fields limits are)
+
+    one_is_own : (v : ℕ) → Contains is_run.inputs v → Contains room.spec.own v
+    one_is_own v has =
+        let p = has.0 in
+        let low : p < processes room.spec = subst (λ (n : ℕ). p < n) is_run.from_own.many has.1 in
+        subst (Contains room.spec.own) (sym (get_or_default is_run.inputs p v 0 has.1) ∙ has.2) (is_run.from_own.own p low)
+
+    own_of : (most : ℕ) → (length (different (decisions_in room.spec fields)) ≤ most) × ((v : ℕ) → Contains (decisions_in room.spec fields) v → Contains is_run.inputs v)
+        → (length (different (decisions_in room.spec fields)) ≤ most) × ((v : ℕ) → Contains (decisions_in room.spec fields) v → Contains room.spec.own v)
+    own_of most within = (within.0, λ v has. one_is_own v (within.1 v has))
+
+    pub within_own : (most : ℕ) → DoRunsKeepTask room.spec most → (length (different (decisions_in room.spec fields)) ≤ most) × ((v : ℕ) → Contains (decisions_in room.spec fields) v → Contains room.spec.own v)
+    within_own most keeps = own_of most (within_task_of (with_inputs room.spec is_run.inputs) most (keeps (history_of room.spec fields) is_run))
+
+    pub within_own_bound : (f : ℕ) → IsCertified room.spec f → (length (different (decisions_in room.spec fields)) ≤ f + 1) × ((v : ℕ) → Contains (decisions_in room.spec fields) v → Contains room.spec.own v)
+    within_own_bound f certified =
+        own_of (f + 1) (within_bound_of (with_inputs room.spec is_run.inputs) is_run.run f (record { protocol = certified.protocol; fewer = subst (λ (n : ℕ). f < n) (sym is_run.from_own.many) certified.fewer }))

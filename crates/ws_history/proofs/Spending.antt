@@ -1,5 +1,5 @@
 -- A process is spent exactly where its history leaves it no round, and asks it for a write.
-use Rattle.std.proofs.Common.{◌≡◌, ◌↔◌, ℕ, ◌-◌, ◌<◌, ◌≤◌, Bool, true, false, not, List, Option, Some, None, refl, sym, ap, ◌∙◌, arith, inl, inr}
+use Rattle.std.proofs.Common.{◌≡◌, ◌↔◌, ℕ, ◌-◌, ◌<◌, ◌≤◌, Bool, true, false, not, List, Option, Some, None, refl, sym, ap, ◌∙◌, subst, arith, inl, inr}
 use Rattle.std.specs.List.{count_by}
 use Rattle.std.specs.Option.{option_map, option_map_or}
 use Rattle.std.specs.Prelude.{slice_index}
@@ -7,16 +7,16 @@ use Rattle.std.proofs.lemmas.Bool.{and_from, and_parts, ltb-true, or_cases, or_l
 use Rattle.protocol_lang.specs.Meaning.{first_value, next_action}
 use Rattle.protocol_lang.specs.declared.meaning.Action.{Action}
 use Rattle.protocol_lang.specs.declared.meaning.Action.TheVariants as actions
-use Rattle.room_spec.specs.Rooms.{RoomSpec, IsWithinLimits, processes}
+use Rattle.room_spec.specs.Rooms.{RoomSpec, IsWithinLimits, is_reduction, processes}
 use Rattle.transcript.specs.declared.event.Event.{Event}
 use Rattle.transcript.specs.Runs.{IsOutOfRounds, action_due, is_snap_by, is_write_by, latest, seen_by}
 use Rattle.room_core.specs.Calls.{RoomState}
 use Rattle.room_core.specs.Fields.{Fields}
 use Rattle.room_core.specs.Reading.{AreFieldsOf}
-use Rattle.room_core.specs.Agreements.{HasAgreed, asks, decided_in, greatest_step, is_clean, is_out, is_passed, outs_at}
+use Rattle.room_core.specs.Agreements.{HasAgreed, asks, decided_in, greatest_step, is_clean, is_out, is_passed, outs_at, run_spec}
 use Rattle.room_core.proofs.CallerLemmas.{rooms_agree}
 use Rattle.ws_history.specs.declared.states.ProcessState.TheVariants as states
-use Rattle.ws_history.specs.Histories.{Source, IsSource, history_from, shown_row}
+use Rattle.ws_history.specs.Histories.{Source, IsSource, shown_row}
 use Rattle.ws_history.specs.Orders.{all_passed}
 use Rattle.room_core.specs.Settled.{is_write}
 use Rattle.ws_history.specs.Reports.{held_by, is_spent, state_by, state_of}
@@ -24,6 +24,7 @@ use Rattle.ws_history.specs.Sources.{history_of, source_of}
 use Rattle.ws_history.proofs.Alternation.{history_stands}
 use Rattle.ws_history.proofs.Order.{last_is, last_round, round_most, round_there, snapshot_at}
 use Rattle.ws_history.proofs.PassedSources.{is_source}
+use Rattle.ws_history.proofs.RunSpecs.{history_run, low_in_run, ordinary_run, rounds_run}
 use Rattle.ws_history.proofs.Settled.{any_found}
 use Rattle.ws_history.proofs.Sorting.{from_order, from_passed, to_order, to_passed}
 use Rattle.ws_history.proofs.SourceIs.{asks_are, decided_is, is_of_passed}
@@ -58,7 +59,7 @@ record IsFar (spec : RoomSpec) (fields : Fields) (j c : ℕ) : Type 0 where
   pub snaps : count_by (is_snap_by j) (history_of spec fields) ≡ c
   pub behind : c ≤ greatest_step spec fields j
   pub within : greatest_step spec fields j ≤ spec.rounds
-  pub asked : 1 ≤ c → action_due spec (history_of spec fields) j ≡ asks spec fields j c
+  pub asked : 1 ≤ c → action_due (run_spec spec fields) (history_of spec fields) j ≡ asks spec fields j c
   pub there : 1 ≤ c → is_passed spec fields j c ≡ true
   pub most : (k : ℕ) → 1 ≤ k → k ≤ spec.rounds → is_passed spec fields j k ≡ true → k ≤ c
 
@@ -76,11 +77,14 @@ is_far : (spec : RoomSpec) (fields : Fields) → HasAgreed spec fields → (j : 
 is_far spec fields has j low =
     let src = source_of spec fields in
     let passed = is_passed spec fields in
-    let source : IsSource spec src = is_source spec src passed (is_of_passed spec fields has) in
-    let at : IsAt spec src (history_from spec src) j (src.greatest j) (last_round src.order j) = (history_stands spec src source).each j low in
-    let last = last_is spec src source in
+    let run = run_spec spec fields in
+    let low_there = low_in_run spec fields j low in
+    let source : IsSource run src = is_source run src passed (is_of_passed spec fields has) in
+    let at : IsAt run src (history_of spec fields) j (src.greatest j) (last_round src.order j) =
+    subst (λ (events : List Event). IsAt run src events j (src.greatest j) (last_round src.order j)) (history_run spec fields src) ((history_stands run src source).each j low_there) in
+    let last = last_is run src source in
     let c = last_round src.order j in
-    let grows = last.grows j low in
+    let grows = last.grows j low_there in
     let behind = last.behind j in
     let within = has.steps_are_within j low in
     record {
@@ -88,14 +92,14 @@ is_far spec fields has j low =
       snaps = at.snaps;
       behind = omega (arith, grows, behind);
       within = within;
-      asked = λ some. asked_by spec src (history_from spec src) j c at.snaps (at.seen some) ∙ asks_are spec fields (snapshot_at j c);
+      asked = λ some. asked_by run src (history_of spec fields) j c at.snaps (at.seen some) ∙ asks_are spec fields (snapshot_at j c) low;
       there = λ some. (from_passed passed (processes spec) spec.rounds (snapshot_at j c) (from_order src.row (all_passed passed (processes spec) spec.rounds) (snapshot_at j c) (round_there src.order j some))).is;
       most = λ k positive few is. round_most src.order (snapshot_at j k) (to_order src.row (all_passed passed (processes spec) spec.rounds) (snapshot_at j k) (to_passed passed (processes spec) spec.rounds (snapshot_at j k) (record { process = low; positive = positive; within = few; is = is })));
     }
 
 -- ---- the two ways
 
-from_spent : (spec : RoomSpec) (fields : Fields) → HasAgreed spec fields → (j : ℕ) → j < processes spec → 1 ≤ spec.rounds → state_of spec fields j ≡ states.Spent → IsOutOfRounds spec (history_of spec fields) j
+from_spent : (spec : RoomSpec) (fields : Fields) → HasAgreed spec fields → (j : ℕ) → j < processes spec → 1 ≤ spec.rounds → state_of spec fields j ≡ states.Spent → IsOutOfRounds (run_spec spec fields) (history_of spec fields) j
 from_spent spec fields has j low some is =
     let both = and_parts (is_clean spec fields j spec.rounds) (is_write (asks spec fields j spec.rounds)) (spent_by (decided_in spec fields j) (is_spent spec fields j) (held_by spec fields j) is).1 in
     let c = last_round (source_of spec fields).order j in
@@ -104,18 +108,20 @@ from_spent spec fields has j low some is =
     let most : spec.rounds ≤ c = far.most spec.rounds some (omega arith) passes in
     let all : c ≡ spec.rounds = omega (arith, most, far.behind, far.within) in
     let value = a_write (asks spec fields j spec.rounds) both.1 in
+    let rounds = rounds_run spec fields in
     record {
-      writes = omega (arith, far.writes, far.behind, most);
-      snaps = omega (arith, far.snaps, most);
+      writes = omega (arith, rounds, far.writes, far.behind, most);
+      snaps = omega (arith, rounds, far.snaps, most);
       value = value.0;
       asked = far.asked (omega (arith, all, some)) ∙ ap (asks spec fields j) all ∙ value.1;
     }
 
-to_spent : (spec : RoomSpec) (fields : Fields) → HasAgreed spec fields → (j : ℕ) → j < processes spec → 1 ≤ spec.rounds → IsOutOfRounds spec (history_of spec fields) j → state_of spec fields j ≡ states.Spent
+to_spent : (spec : RoomSpec) (fields : Fields) → HasAgreed spec fields → (j : ℕ) → j < processes spec → 1 ≤ spec.rounds → IsOutOfRounds (run_spec spec fields) (history_of spec fields) j → state_of spec fields j ≡ states.Spent
 to_spent spec fields has j low some none =
+    let rounds = rounds_run spec fields in
     let c = last_round (source_of spec fields).order j in
     let far = is_far spec fields has j low in
-    let all : c ≡ spec.rounds = omega (arith, none.snaps, far.snaps, far.behind, far.within) in
+    let all : c ≡ spec.rounds = omega (arith, rounds, none.snaps, far.snaps, far.behind, far.within) in
     let last : greatest_step spec fields j ≡ spec.rounds = omega (arith, all, far.behind, far.within) in
     let write : asks spec fields j spec.rounds ≡ actions.Write none.value = ap (asks spec fields j) (sym all) ∙ sym (far.asked (omega (arith, all, some))) ∙ none.asked in
     let undecided : (v : ℕ) → decided_in spec fields j ≡ Some v → ⊥ = λ v is. not_both v none.value (sym (decided_is spec fields has j v low is) ∙ ap (asks spec fields j) last ∙ write) in
@@ -135,8 +141,11 @@ to_spent spec fields has j low some none =
     ∙ ap (λ (b : Bool). state_by None b (held_by spec fields j)) spent
 
 module _ (room : RoomState) (fields : Fields) (limits : IsWithinLimits room.spec) (are : AreFieldsOf room fields) (j : ℕ) (low : j < processes room.spec) where
-  pub spent_there : (state_of room.spec fields j ≡ states.Spent) ↔ IsOutOfRounds room.spec (history_of room.spec fields) j
+  pub spent_there : (state_of room.spec fields j ≡ states.Spent) ↔ IsOutOfRounds (run_spec room.spec fields) (history_of room.spec fields) j
   spent_there =
       let has = rooms_agree room fields limits are in
       let some = limits.shape.rounds_range.0 in
       (from_spent room.spec fields has j low some, to_spent room.spec fields has j low some)
+
+  pub ordinary_spent_there : is_reduction room.spec ≡ false → (state_of room.spec fields j ≡ states.Spent) ↔ IsOutOfRounds room.spec (history_of room.spec fields) j
+  ordinary_spent_there is = subst (λ (s : RoomSpec). (state_of room.spec fields j ≡ states.Spent) ↔ IsOutOfRounds s (history_of room.spec fields) j) (ordinary_run room.spec fields is) spent_there

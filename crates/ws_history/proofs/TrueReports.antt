@@ -12,7 +12,7 @@ use Rattle.ws_history.specs.Reports.{IsReportIn, IsTrueReport, report_of, state_
 use Rattle.ws_history.proofs.Deciders.{decided_by_process, decided_there}
 use Rattle.ws_history.proofs.Held.{held_at_most, inside_at_most}
 use Rattle.ws_history.proofs.RoomFields.{crashed_are, history_in, states_in}
-use Rattle.ws_history.proofs.SourceIs.{fields_run}
+use Rattle.ws_history.proofs.SourceIs.{fields_run, ordinary_fields_run, reduction_fields_run}
 
 pub true_report : (room : RoomState) (fields : Fields) → IsWithinLimits room.spec → AreFieldsOf room fields → IsTrueReport room.spec fields (report_of room.spec fields)
 true_report room fields limits are =
@@ -20,6 +20,8 @@ true_report room fields limits are =
     λ j low. get_or-map-range_with_len (state_of room.spec fields) 0 (processes room.spec) j j Going low (omega arith) in
     record {
       run = fields_run room.spec fields (rooms_agree room fields limits are);
+      ordinary = λ is. ordinary_fields_run room.spec fields is (rooms_agree room fields limits are);
+      from_own = λ is. reduction_fields_run room.spec fields is (rooms_agree room fields limits are);
       decided = λ j v low.
           let both = decided_there room fields limits are j v low in
           (λ is. both.0 (sym (there j low) ∙ is), λ has. there j low ∙ both.1 has);

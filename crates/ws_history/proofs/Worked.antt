@@ -22,6 +22,7 @@ room = record {
   version = One;
   name = codes "two";
   inputs = 5 ∷ 7 ∷ [];
+  own = [];
   simulators = 1;
   rounds = 2;
   turns = 10;

@@ -18,6 +18,7 @@ one = record {
   version = One;
   name = codes "a";
   inputs = 5 ∷ [];
+  own = [];
   simulators = 1;
   rounds = 1;
   turns = 10;

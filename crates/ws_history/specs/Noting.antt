@@ -1,8 +1,9 @@
 -- How a step is noted, by what the room's words say before it and after it. Inside the crate.
-use Rattle.std.specs.Prelude.{ℕ, ◌+◌, ◌*◌, not, Option, Some, None, slice_set, nat_le, nat_lt, ◌==◌, ◌&&◌, ◌||◌, if◌then◌else◌}
+use Rattle.std.specs.Prelude.{ℕ, Bool, true, false, ◌+◌, ◌*◌, not, Option, Some, None, slice_set, nat_le, nat_lt, ◌==◌, ◌&&◌, ◌||◌, if◌then◌else◌}
 use Rattle.room_spec.specs.Rooms.{processes}
 use Rattle.simulator.specs.Minds.{current_round}
-use Rattle.simulator.specs.Sweeps.{is_resting}
+use Rattle.simulator.specs.declared.line.Line.{Line}
+use Rattle.simulator.specs.declared.line.Line.TheVariants.{Raise, Snap, Out}
 use Rattle.simulator.specs.Turns.{words_in}
 use Rattle.room_core.specs.Agreements.{greatest_step, has_out}
 use Rattle.room_core.specs.Calls.{RoomState, configuration_of, room_after_step, sweep_at}
@@ -12,7 +13,7 @@ use Rattle.ws_history.specs.declared.points.Before.{Before}
 use Rattle.ws_history.specs.Notes.{Notes, place}
 use Rattle.ws_history.specs.Readings.{read_of}
 
--- what there is before a step of simulator i, unless it is between two turns
+-- what there is before a step of simulator i
 abbrev pub before_step : RoomState → ℕ → Before
 before_step room i = record {
   time = events_so_far (configuration_of room);
@@ -23,8 +24,16 @@ before_step room i = record {
   ends_collect = is_snap (sweep_at room i).mind.line && ((sweep_at room i).mind.word + 1 == words_in room.spec);
 }
 
+-- a step at this line counts a write, loads a memory word of a scan, or stores a decision: by no other step does anything take effect
+abbrev pub may_take_effect : Line → Bool
+may_take_effect Raise = true
+may_take_effect Snap = true
+may_take_effect (Out decision) = true
+may_take_effect line = false
+
+-- the same, if something may take effect by the step
 abbrev pub looked : RoomState → ℕ → Option Before
-looked room i = if nat_le room.spec.simulators i || is_resting (sweep_at room i).mind.line then None else Some (before_step room i)
+looked room i = if nat_le room.spec.simulators i || not (may_take_effect (sweep_at room i).mind.line) then None else Some (before_step room i)
 
 -- the notes after the step, which led to this room
 abbrev pub count_noted : RoomState → Before → Notes → Notes

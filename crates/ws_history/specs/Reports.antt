@@ -1,13 +1,14 @@
 -- The report of a room: the state of each process, which simulators have crashed, and the history.
-use Rattle.std.specs.Prelude.{◌≡◌, ◌<◌, ◌≤◌, ◌↔◌, ℕ, Bool, true, false, not, List, Option, Some, None, is_some, length, map, slice_index_or, ◌==◌, ◌&&◌, if◌then◌else◌}
+use Rattle.std.specs.Prelude.{◌≡◌, ◌<◌, ◌≤◌, ◌↔◌, ℕ, Bool, true, false, not, List, Option, Some, None, is_some, length, map, slice_index_or, ◌==◌, ◌&&◌, ◌||◌, if◌then◌else◌}
 use Rattle.std.specs.List.{Contains, count_by, filter, filter_map, find, list_any, range_with_len}
-use Rattle.room_spec.specs.Rooms.{RoomSpec, processes}
+use Rattle.room_spec.specs.Rooms.{RoomSpec, is_reduction, processes}
+use Rattle.transcript.specs.Reductions.{IsRunOf}
 use Rattle.transcript.specs.Runs.{IsRun}
 use Rattle.transcript.specs.declared.event.Event.TheVariants.{Decide}
 use Rattle.room_core.specs.Calls.{RoomState}
 use Rattle.room_core.specs.Fields.{Fields, decision_in}
 use Rattle.room_core.specs.Reading.{AreFieldsOf}
-use Rattle.room_core.specs.Agreements.{asks, decided_in, has_out, is_clean}
+use Rattle.room_core.specs.Agreements.{asks, decided_in, has_out, is_clean, run_spec}
 use Rattle.room_core.specs.Settled.{crashed_in, is_write}
 use Rattle.ws_history.specs.Sources.{history_of}
 use Rattle.ws_history.specs.Taking.{Keeps, TakesMore}
@@ -20,9 +21,13 @@ use Rattle.ws_history.specs.declared.states.ProcessState.TheVariants.{Decided, S
 abbrev pub is_spent : RoomSpec → Fields → ℕ → Bool
 is_spent spec fields j = is_clean spec fields j spec.rounds && is_write (asks spec fields j spec.rounds)
 
--- simulator i is at level 1 in an agreement on a snapshot of process j
+-- simulator i is at level 1 in the agreement on the input of process j, which a reduction has
+abbrev pub is_inside_input : RoomSpec → Fields → ℕ → ℕ → Bool
+is_inside_input spec fields i j = is_reduction spec && (fields.level i j 0 == 1)
+
+-- it is at level 1 there, or in an agreement on a snapshot of process j
 abbrev pub is_inside : RoomSpec → Fields → ℕ → ℕ → Bool
-is_inside spec fields i j = list_any (λ k. fields.level i j k == 1) (range_with_len 1 spec.rounds)
+is_inside spec fields i j = is_inside_input spec fields i j || list_any (λ k. fields.level i j k == 1) (range_with_len 1 spec.rounds)
 
 -- the least simulator that has crashed there
 abbrev pub held_by : RoomSpec → Fields → ℕ → Option ℕ
@@ -73,11 +78,13 @@ report_of spec fields = record {
   history = history_of spec fields;
 }
 
--- What a report of a room with these fields says: its history is a run of the processes, with each process's decision and no other, and
--- so with what each simulator has decided; and no more processes are held than simulators have crashed, nor are they with all that have no decision and an agreement inside
+-- What a report of a room with these fields says: its history is a run of the processes, in a reduction from inputs that were agreed on, each
+-- of them a simulator's own; it has each process's decision and no other, and so what each simulator has decided; and no more processes are held than simulators have crashed, nor are they with all that have no decision and an agreement inside
 -- which a simulator has crashed.
 pub record IsTrueReport (spec : RoomSpec) (fields : Fields) (report : Report) : Type 0 where
-  pub run : IsRun spec report.history
+  pub run : IsRun (run_spec spec fields) report.history
+  pub ordinary : is_reduction spec ≡ false → IsRun spec report.history
+  pub from_own : is_reduction spec ≡ true → IsRunOf spec report.history
   pub decided : (j v : ℕ) → j < processes spec → (slice_index_or report.states.items j Going ≡ Decided v) ↔ Contains report.history (Decide j v)
   pub simulators : (i v : ℕ) → i < spec.simulators → decision_in fields i ≡ Some v → (j : ℕ) × (j < processes spec) × Contains report.history (Decide j v)
   pub held : count_by is_held report.states.items ≤ length report.crashed.items

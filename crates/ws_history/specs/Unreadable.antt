@@ -1,8 +1,8 @@
 -- The agreements that no simulator can read at a moment, since one is in the unsafe section.
-use Rattle.std.specs.Prelude.{ℕ, Bool, Option, Some, None, position, nat_lt, nat_le, ◌==◌, ◌&&◌, ◌||◌, if◌then◌else◌}
+use Rattle.std.specs.Prelude.{ℕ, Bool, not, Option, Some, None, position, nat_lt, nat_le, ◌==◌, ◌&&◌, ◌||◌, if◌then◌else◌}
 use Rattle.std.specs.List.{find, range_with_len}
 use Rattle.std.specs.Option.{option_map}
-use Rattle.room_spec.specs.Rooms.{RoomSpec, processes}
+use Rattle.room_spec.specs.Rooms.{RoomSpec, is_reduction, processes}
 use Rattle.room_core.specs.Agreements.{is_fixed, shown_of}
 use Rattle.room_core.specs.Fields.{Fields, levels_at}
 use Rattle.ws_history.specs.declared.unreadable.Unreadable.{Unreadable}
@@ -21,7 +21,7 @@ with_inside spec fields j k i = record { inside = i; chosen = chosen_of spec fie
 
 -- the room has no such agreement
 abbrev pub is_none : RoomSpec → ℕ → ℕ → Bool
-is_none spec j k = nat_le (processes spec) j || ((k == 0) || nat_lt spec.rounds k)
+is_none spec j k = nat_le (processes spec) j || (((k == 0) && not (is_reduction spec)) || nat_lt spec.rounds k)
 
 -- what keeps the agreement on (j, k) from being read, if something does
 abbrev pub unreadable_of : RoomSpec → Fields → ℕ → ℕ → Option Unreadable

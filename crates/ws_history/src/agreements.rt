@@ -3,11 +3,12 @@ ghost use Rattle.std.specs.Prelude.{◌≡◌, ℕ, ◌+◌, ◌<◌, ◌≤◌,
 ghost use Rattle.std.specs.List.{list_any, range_with_len};
 ghost use Rattle.room_spec.specs.Rooms.{IsWithinLimits, processes};
 ghost use Rattle.room_spec.specs.Sizes.{memory_words, sizes_in};
-ghost use Rattle.view_table.specs.Places.{IsRound, words_of};
+ghost use Rattle.view_table.specs.Places.{IsAgreementRound, IsRound, words_of};
 ghost use Rattle.sim_memory.specs.Steps.{row_of, step_in};
 ghost use Rattle.room_core.specs.Agreements.{asks, first_with, greatest_step, has_looked_blind, has_out, is_clean, is_fixed, is_passed, row_at, shown, shown_by, shown_of, written};
 ghost use Rattle.ws_history.specs.Readings.{read_of, view_start};
 
+use crate::inputs::input_at;
 use crate::points::has_looked_blind;
 use crate::reading::{
     least_with, levels_word, process_count, round_count, row_of, shape_of, simulator_count, step,
@@ -17,7 +18,7 @@ use protocol_lang::{Action, View, next};
 use room_core::RoomCore;
 use view_table::{MAX_WORDS, Place, index};
 
-#[tactic(auto, unfolding(crate::specs::Readings::read_of))]
+#[tactic(auto, unfolding(crate::specs::Readings::read_of), using(view_table::proofs::CallerLemmas::agreement_round))]
 pub(crate) fn is_clean(room: &RoomCore, j: usize, k: usize) -> bool
     requires process { j < processes room.now.spec }
     requires round { IsRound (sizes_in room.now.spec) k }
@@ -54,7 +55,7 @@ pub(crate) fn is_passed(room: &RoomCore, progress: &Progress, k: usize) -> bool
 #[tactic(auto, unfolding(crate::specs::Readings::read_of))]
 pub(crate) fn is_fixed(room: &RoomCore, j: usize, k: usize) -> bool
     requires process { j < processes room.now.spec }
-    requires round { IsRound (sizes_in room.now.spec) k }
+    requires round { IsAgreementRound (sizes_in room.now.spec) k }
     ensures { result ≡ is_fixed room.now.spec (read_of room.now) j k }
 {
     safe_agreement::has_level(levels_word(room, j, k), simulator_count(room), 2)
@@ -76,7 +77,7 @@ fn is_any_blind(room: &RoomCore, j: usize, k: usize) -> bool
 /// The least simulator at level 2 in this agreement, or 0.
 pub(crate) fn shown_of(room: &RoomCore, j: usize, k: usize) -> usize
     requires process { j < processes room.now.spec }
-    requires round { IsRound (sizes_in room.now.spec) k }
+    requires round { IsAgreementRound (sizes_in room.now.spec) k }
     ensures value { result ≡ shown_of room.now.spec (read_of room.now) j k }
     ensures below { result < room.now.spec.simulators }
 {
@@ -89,6 +90,7 @@ pub(crate) fn shown_of(room: &RoomCore, j: usize, k: usize) -> usize
 }
 
 /// Where among the room's words the view begins that this agreement shows.
+#[tactic(auto, using(view_table::proofs::CallerLemmas::agreement_round))]
 fn view_start(room: &RoomCore, j: usize, k: usize) -> usize
     requires process { j < processes room.now.spec }
     requires round { IsRound (sizes_in room.now.spec) k }
@@ -181,5 +183,11 @@ pub(crate) fn asks(room: &RoomCore, j: usize, k: usize) -> Action
     let view = shown_by(room, row.as_slice());
     let rounds = round_count(room);
     prove!(k <= rounds);
-    next(spec.protocol(), spec.input(j), j as u32, k as u32, &view)
+    next(
+        spec.protocol(),
+        input_at(room, j),
+        j as u32,
+        k as u32,
+        &view,
+    )
 }

@@ -1,15 +1,17 @@
 //! The history of a room.
-ghost use Rattle.std.specs.Prelude.{◌≡◌, ℕ, ◌+◌, ◌<◌, ◌≤◌, [], ◌∷◌, ◌++◌, IfOk, OnOk, length, map, max, replicate, slice_index};
+ghost use Rattle.std.specs.Prelude.{◌≡◌, ℕ, ◌+◌, ◌<◌, ◌≤◌, [], ◌∷◌, ◌++◌, IfOk, OnOk, false, true, length, map, max, replicate, slice_index};
 ghost use Rattle.std.specs.List.{sum};
 ghost use Rattle.protocol_lang.specs.declared.meaning.TheConstants.{MAX_PROCESSES};
-ghost use Rattle.room_spec.specs.Rooms.{processes};
+ghost use Rattle.room_spec.specs.Rooms.{is_reduction, processes};
 ghost use Rattle.ws_history.specs.Histories.{new_writes};
 ghost use Rattle.room_core.specs.Fields.{Fields};
 ghost use Rattle.room_core.specs.Reading.{AreFieldsOf};
 ghost use Rattle.sim_memory.specs.Steps.{row_of};
-ghost use Rattle.room_core.specs.Agreements.{greatest_step, shown, shown_by};
+ghost use Rattle.room_core.specs.Agreements.{greatest_step, run_spec, shown, shown_by};
+ghost use Rattle.transcript.specs.Reductions.{IsRunOf};
 ghost use Rattle.transcript.specs.Runs.{IsRun};
 ghost use Rattle.transcript.specs.declared.event.Event.TheVariants.{Snap};
+ghost use Rattle.ws_history.specs.Inputs.{IsRoomRun};
 ghost use Rattle.ws_history.specs.Placing.{agreed_at, shown_with};
 ghost use Rattle.ws_history.specs.Readings.{read_of};
 ghost use Rattle.ws_history.specs.Sources.{history_of, source_of};
@@ -39,7 +41,8 @@ struct Shown {
 /// and then by process; before each the writes that it is the first to show, and after it the
 /// decision of its process, if that follows it; at the end the writes that none of them shows. It is
 /// a run of the processes on a memory of single writers and atomic snapshots (Afek et al. 1993), which
-/// is the simulation theorem (Borowsky et al. 2001). The room is only read.
+/// is the simulation theorem (Borowsky et al. 2001). In a reduction it is a run from the inputs that were agreed on, which are the simulators'
+/// own: see [`run_inputs`](crate::run_inputs). The room is only read.
 ///
 /// # Errors
 ///
@@ -47,8 +50,13 @@ struct Shown {
 pub fn history(alloc: Global, room: &RoomCore) -> Result<Vec<Event>, AllocError>
     // It is that of any fields that the room stands for.
     ensures fields { (fields : Fields) → AreFieldsOf room.now fields → IfOk result (λ events. events.items ≡ history_of room.now.spec fields) }
-    // It is a run of the processes on write-snapshot memory.
-    ensures run { IfOk result (λ events. IsRun room.now.spec events.items) }
+    // It is a run of the processes on write-snapshot memory, in a reduction from the inputs that were agreed on,
+    ensures run { (fields : Fields) → AreFieldsOf room.now fields → IfOk result (λ events. IsRun (run_spec room.now.spec fields) events.items) }
+    ensures ordinary { is_reduction room.now.spec ≡ false → IfOk result (λ events. IsRun room.now.spec events.items) }
+    // which are the simulators' own.
+    ensures from_own { is_reduction room.now.spec ≡ true → IfOk result (λ events. IsRunOf room.now.spec events.items) }
+    // So in both kinds it is a run of the room.
+    ensures of_room { IfOk result (λ events. IsRoomRun room.now.spec events.items) }
 {
     let _shape = shape_of(room); // for the proof: the room stands for some fields
     let events = read_history(alloc, room)?;

@@ -1,14 +1,15 @@
 //! Laws of histories that are made from the snapshots that were agreed on.
-ghost use Rattle.std.specs.Prelude.{List, Some, [], ◌∷◌, ◌++◌, ◌≢◌, ◌≡◌, ◌<◌, ◌≤◌, ◌↔◌, ◌+◌, ◌==◌, ℕ, Bool, length};
+ghost use Rattle.std.specs.Prelude.{List, Some, [], ◌∷◌, ◌++◌, ◌≢◌, ◌≡◌, ◌<◌, ◌≤◌, ◌↔◌, ◌+◌, ◌⊎◌, ◌==◌, ℕ, Bool, false, true, length};
 ghost use Rattle.std.specs.List.{count_by, Contains};
-ghost use Rattle.room_spec.specs.Rooms.{IsCertified, RoomSpec, IsWithinLimits, processes};
+ghost use Rattle.room_spec.specs.Rooms.{IsCertified, RoomSpec, IsWithinLimits, is_reduction, processes};
+ghost use Rattle.transcript.specs.Reductions.{AreFromOwn, IsRunOf};
 ghost use Rattle.transcript.specs.Runs.{IsOutOfRounds, IsRun, is_write_by, is_snap_by};
 ghost use Rattle.transcript.specs.Tasks.{KeepsTask, decided_in, different};
 ghost use Rattle.transcript.specs.declared.event.Event.TheVariants.{Decide};
 ghost use Rattle.room_core.specs.Calls.{RoomState};
 ghost use Rattle.room_core.specs.Fields.{Fields, decision_in};
 ghost use Rattle.room_core.specs.Reading.{AreFieldsOf};
-ghost use Rattle.room_core.specs.Agreements.{HasAgreed};
+ghost use Rattle.room_core.specs.Agreements.{HasAgreed, run_spec};
 ghost use Rattle.room_core.specs.Settled.{IsSettledFor, crashed_in};
 ghost use Rattle.ws_history.specs.Reports.{decisions_in, held_in, is_decided, is_held, is_over, state_of, states_of};
 ghost use Rattle.ws_history.specs.declared.states.ProcessState.TheVariants.{Decided, Spent};
@@ -20,6 +21,7 @@ ghost use Rattle.ws_history.specs.Notes.{AreNotesOf, IsNoted, Notes, events_take
 ghost use Rattle.ws_history.specs.Linearizations.{Begins, LackAtMostASnapshot, IsLinearization, Timed, events_in, events_of, linearized};
 ghost use Rattle.ws_history.specs.Histories.{Snapshot, Source, IsSource, history_from};
 ghost use Rattle.ws_history.specs.Passed.{IsOfPassed, IsDecided};
+ghost use Rattle.ws_history.specs.Inputs.{DoRunsKeepTask};
 
 /// The history of a source is a run, and has all of its writes.
 pub fn history_is_run()
@@ -44,15 +46,31 @@ pub fn decisions()
     ensures { (spec : RoomSpec) (src : Source) (p v : ℕ) → Contains (history_from spec src) (Decide p v) ↔ IsDecided src p v }
 {}
 
-/// Fields of a room that keep what a room promises have a history that is a run.
+/// Fields of a room that keep what a room promises have a history that is a run: in an ordinary room of that itself, and in a reduction of
+/// the ordinary room in which the processes have the inputs that were agreed on.
 pub fn fields_run()
-    ensures { (spec : RoomSpec) (fields : Fields) → HasAgreed spec fields → IsRun spec (history_of spec fields) }
+    ensures run { (spec : RoomSpec) (fields : Fields) → HasAgreed spec fields → IsRun (run_spec spec fields) (history_of spec fields) }
+    ensures ordinary { (spec : RoomSpec) (fields : Fields) → is_reduction spec ≡ false → HasAgreed spec fields → IsRun spec (history_of spec fields) }
 {}
 
 /// The simulation theorem: the history of a room is a run of its processes on write-snapshot
 /// memory, whatever its simulators did.
 pub fn rooms_run()
-    ensures { (room : RoomState) (fields : Fields) → IsWithinLimits room.spec → AreFieldsOf room fields → IsRun room.spec (history_of room.spec fields) }
+    ensures ordinary { (room : RoomState) (fields : Fields) →
+        IsWithinLimits room.spec → is_reduction room.spec ≡ false → AreFieldsOf room fields →
+        IsRun room.spec (history_of room.spec fields) }
+    // That of a reduction is a run from the inputs that were agreed on,
+    ensures run { (room : RoomState) (fields : Fields) →
+        IsWithinLimits room.spec → AreFieldsOf room fields →
+        IsRun (run_spec room.spec fields) (history_of room.spec fields) }
+    // each of which is a simulator's own.
+    ensures from_own { (room : RoomState) (fields : Fields) →
+        IsWithinLimits room.spec → is_reduction room.spec ≡ true → AreFieldsOf room fields →
+        AreFromOwn room.spec (run_spec room.spec fields).inputs }
+    // So it is a run of the reduction: a run from some inputs that are simulators' own.
+    ensures reduction { (room : RoomState) (fields : Fields) →
+        IsWithinLimits room.spec → is_reduction room.spec ≡ true → AreFieldsOf room fields →
+        IsRunOf room.spec (history_of room.spec fields) }
 {}
 
 /// The simulation is linearizable (Herlihy and Wing 1990): each write, snapshot and decision of the history takes effect at one atomic step of
@@ -62,9 +80,13 @@ pub fn linearizations()
     ensures some { (room : RoomState) (fields : Fields) →
         IsWithinLimits room.spec → (are : AreFieldsOf room fields) →
         (points : List Timed) × IsLinearization room.spec are.run.schedule fields points }
-    // is a run,
+    // is a run, in a reduction from the inputs that were agreed on,
     ensures run { (room : RoomState) (fields : Fields) →
         IsWithinLimits room.spec → (are : AreFieldsOf room fields) → (points : List Timed) →
+        IsLinearization room.spec are.run.schedule fields points →
+        IsRun (run_spec room.spec fields) (events_in (source_of room.spec fields) points) }
+    ensures ordinary { (room : RoomState) (fields : Fields) →
+        IsWithinLimits room.spec → is_reduction room.spec ≡ false → (are : AreFieldsOf room fields) → (points : List Timed) →
         IsLinearization room.spec are.run.schedule fields points →
         IsRun room.spec (events_in (source_of room.spec fields) points) }
     // in which each process does what it does in the history; at most a last snapshot comes after it.
@@ -83,6 +105,9 @@ pub fn linearized_runs()
         events_in (source_of room.spec fields) points ≡ linearized room.spec are.run.schedule fields }
     ensures run { (room : RoomState) (fields : Fields) →
         IsWithinLimits room.spec → (are : AreFieldsOf room fields) →
+        IsRun (run_spec room.spec fields) (linearized room.spec are.run.schedule fields) }
+    ensures ordinary { (room : RoomState) (fields : Fields) →
+        IsWithinLimits room.spec → is_reduction room.spec ≡ false → (are : AreFieldsOf room fields) →
         IsRun room.spec (linearized room.spec are.run.schedule fields) }
     ensures same { (room : RoomState) (fields : Fields) →
         IsWithinLimits room.spec → (are : AreFieldsOf room fields) → (p : ℕ) → p < processes room.spec →
@@ -145,15 +170,28 @@ pub fn simulators_decide()
         ((v : ℕ) → Contains (decisions_in room.spec fields) v → Contains room.spec.inputs v) }
     // By a protocol that waits for all but f processes they decide at most f + 1 of the inputs.
     ensures certified { (room : RoomState) (fields : Fields) →
-        IsWithinLimits room.spec → AreFieldsOf room fields → (f : ℕ) → IsCertified room.spec f →
+        IsWithinLimits room.spec → is_reduction room.spec ≡ false → AreFieldsOf room fields → (f : ℕ) → IsCertified room.spec f →
         (length (different (decisions_in room.spec fields)) ≤ f + 1) ×
         ((v : ℕ) → Contains (decisions_in room.spec fields) v → Contains room.spec.inputs v) }
+    // The reduction: if each run from inputs of the simulators keeps a task, then the simulators keep it, with their own inputs.
+    ensures own { (room : RoomState) (fields : Fields) →
+        IsWithinLimits room.spec → is_reduction room.spec ≡ true → AreFieldsOf room fields → (most : ℕ) → DoRunsKeepTask room.spec most →
+        (length (different (decisions_in room.spec fields)) ≤ most) ×
+        ((v : ℕ) → Contains (decisions_in room.spec fields) v → Contains room.spec.own v) }
+    // A protocol that waits for all but f processes is one of which each run keeps the task f + 1.
+    ensures own_certified { (room : RoomState) (fields : Fields) →
+        IsWithinLimits room.spec → is_reduction room.spec ≡ true → AreFieldsOf room fields → (f : ℕ) → IsCertified room.spec f →
+        (length (different (decisions_in room.spec fields)) ≤ f + 1) ×
+        ((v : ℕ) → Contains (decisions_in room.spec fields) v → Contains room.spec.own v) }
 {}
 
 /// A process is spent exactly if its history leaves it no round, and asks it for a write.
 pub fn spent_in_history()
-    ensures { (room : RoomState) (fields : Fields) →
+    ensures run { (room : RoomState) (fields : Fields) →
         IsWithinLimits room.spec → AreFieldsOf room fields → (j : ℕ) → j < processes room.spec →
+        (state_of room.spec fields j ≡ Spent) ↔ IsOutOfRounds (run_spec room.spec fields) (history_of room.spec fields) j }
+    ensures ordinary { (room : RoomState) (fields : Fields) →
+        IsWithinLimits room.spec → is_reduction room.spec ≡ false → AreFieldsOf room fields → (j : ℕ) → j < processes room.spec →
         (state_of room.spec fields j ≡ Spent) ↔ IsOutOfRounds room.spec (history_of room.spec fields) j }
 {}
 
@@ -165,16 +203,23 @@ pub fn settled_rooms()
         processes room.spec ≤ count_by is_over (states_of room.spec fields) + length (crashed_in room.spec fields) }
 {}
 
-/// In a room of a protocol that waits for all but f processes, and has two rounds or more, no process is ever
-/// spent. So once it has settled all have decided but for at most as many as simulators have
-/// crashed.
+/// In an ordinary room of a protocol that waits for all but f processes, and has two rounds or more, no process is ever
+/// spent. So it is in a reduction with f + 1 simulators or fewer. Once the room has settled all have decided but for at most as many as
+/// simulators have crashed.
 pub fn certified_rooms()
     ensures unspent { (room : RoomState) (fields : Fields) →
-        IsWithinLimits room.spec → AreFieldsOf room fields → (f : ℕ) → IsCertified room.spec f → 2 ≤ room.spec.rounds → (j : ℕ) →
-        j < processes room.spec →
+        IsWithinLimits room.spec → AreFieldsOf room fields → (f : ℕ) → IsCertified room.spec f →
+        (is_reduction room.spec ≡ false) ⊎ (room.spec.simulators ≤ f + 1) → 2 ≤ room.spec.rounds → (j : ℕ) → j < processes room.spec →
         state_of room.spec fields j ≢ Spent }
     ensures settled { (room : RoomState) (fields : Fields) →
-        IsWithinLimits room.spec → AreFieldsOf room fields → (f : ℕ) → IsCertified room.spec f → 2 ≤ room.spec.rounds →
+        IsWithinLimits room.spec → AreFieldsOf room fields → (f : ℕ) → IsCertified room.spec f →
+        (is_reduction room.spec ≡ false) ⊎ (room.spec.simulators ≤ f + 1) → 2 ≤ room.spec.rounds →
         ((j : ℕ) → j < processes room.spec → IsSettledFor room.spec fields j) →
         processes room.spec ≤ count_by is_decided (states_of room.spec fields) + length (crashed_in room.spec fields) }
+    // In every room, also in a reduction and in one round, more than f processes have decided then if no simulator has crashed, and one
+    // less for each that has.
+    ensures most { (room : RoomState) (fields : Fields) →
+        IsWithinLimits room.spec → AreFieldsOf room fields → (f : ℕ) → IsCertified room.spec f →
+        ((j : ℕ) → j < processes room.spec → IsSettledFor room.spec fields j) →
+        f < count_by is_decided (states_of room.spec fields) + length (crashed_in room.spec fields) }
 {}

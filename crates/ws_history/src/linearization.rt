@@ -1,16 +1,17 @@
 //! The linearization of a room's simulated execution.
-ghost use Rattle.std.specs.Prelude.{◌≡◌, ℕ, ◌<◌, List, IfOk, OnOk, map};
+ghost use Rattle.std.specs.Prelude.{◌≡◌, ℕ, ◌<◌, List, IfOk, OnOk, false, map};
 ghost use Rattle.std.specs.List.{fold};
-ghost use Rattle.room_spec.specs.Rooms.{processes};
+ghost use Rattle.room_spec.specs.Rooms.{is_reduction, processes};
 ghost use Rattle.room_spec.specs.Sizes.{sizes_in};
 ghost use Rattle.view_table.specs.Places.{IsRound};
 ghost use Rattle.transcript.specs.Runs.{IsRun};
-ghost use Rattle.room_core.specs.Agreements.{greatest_step, row_at, shown_by};
+ghost use Rattle.room_core.specs.Agreements.{greatest_step, row_at, run_spec, shown_by};
 ghost use Rattle.transcript.specs.declared.event.Event.TheVariants.{Snap};
 ghost use Rattle.room_core.specs.Calls.{configuration_of};
 ghost use Rattle.room_core.specs.Fields.{Fields};
 ghost use Rattle.room_core.specs.Reading.{AreFieldsOf};
 ghost use Rattle.room_core.specs.Rooms.{ScheduleEvent};
+ghost use Rattle.ws_history.specs.Inputs.{IsRoomRun};
 ghost use Rattle.ws_history.specs.Linearizations.{AreEventsAtSteps, LackAtMostASnapshot, events_of};
 ghost use Rattle.ws_history.specs.Notes.{AreNotesOf};
 ghost use Rattle.ws_history.specs.Ordered.{decision_points, events_by_time, points_of, put_in, read_points, write_points};
@@ -52,10 +53,16 @@ pub fn linearize(
     ensures at_steps { (schedule : List ScheduleEvent) →
         AreNotesOf (configuration_of room.now) schedule points.now →
         IfOk result (λ events. AreEventsAtSteps room.now.spec schedule events.entries) }
-    // In this order they are a run,
-    ensures run { (schedule : List ScheduleEvent) →
-        AreNotesOf (configuration_of room.now) schedule points.now →
+    // In this order they are a run, in a reduction from the inputs that were agreed on,
+    ensures run { (schedule : List ScheduleEvent) (fields : Fields) →
+        AreNotesOf (configuration_of room.now) schedule points.now → AreFieldsOf room.now fields →
+        IfOk result (λ events. IsRun (run_spec room.now.spec fields) (map (λ e. e.1) events.entries)) }
+    ensures ordinary { (schedule : List ScheduleEvent) →
+        is_reduction room.now.spec ≡ false → AreNotesOf (configuration_of room.now) schedule points.now →
         IfOk result (λ events. IsRun room.now.spec (map (λ e. e.1) events.entries)) }
+    ensures of_room { (schedule : List ScheduleEvent) →
+        AreNotesOf (configuration_of room.now) schedule points.now →
+        IfOk result (λ events. IsRoomRun room.now.spec (map (λ e. e.1) events.entries)) }
     // in which each process does what it does in the history; at most a last snapshot comes after it.
     ensures same { (schedule : List ScheduleEvent) (fields : Fields) →
         AreNotesOf (configuration_of room.now) schedule points.now → AreFieldsOf room.now fields → (p : ℕ) → p < processes room.now.spec →
@@ -126,6 +133,7 @@ fn put_write(
 }
 
 /// Its snapshot in round `r`, if its agreement is fixed.
+#[tactic(auto, using(view_table::proofs::CallerLemmas::agreement_round))]
 fn put_snapshot(
     events: &mut BTreeMap<u64, Event>,
     noted: &Noted<'_>,

@@ -13,7 +13,7 @@ ghost use Rattle.ws_history.specs.Readings.{read_of};
 ghost use Rattle.room_core.specs.Rooms.{opening};
 ghost use Rattle.room_core.specs.declared.reply.StepReply.TheVariants.{Stepped};
 ghost use Rattle.ws_history.specs.Notes.{AreNotesOf, counted_at, place, read_at, stored_at};
-ghost use Rattle.ws_history.specs.Noting.{count_noted, looked, noted, read_noted, store_noted};
+ghost use Rattle.ws_history.specs.Noting.{count_noted, looked, may_take_effect, noted, read_noted, store_noted};
 ghost use Rattle.ws_history.specs.Effects.{has_read};
 
 use crate::reading::{
@@ -189,14 +189,14 @@ pub(crate) fn reads(room: &RoomCore, i: usize, before: &Before) -> bool
     before.ends_collect && (word_count(room) == 1 || scans(room, i))
 }
 
-/// What there is before a step of simulator `i`. `None` between two turns: the first step of a turn stores a value or asks.
+/// What there is before a step of simulator `i`, if something may take effect by the step.
 pub(crate) fn look(room: &RoomCore, i: usize) -> Option<Before>
     ensures value { result ≡ looked room.now i }
     ensures process { IfSome result (λ before. before.process < processes room.now.spec) }
     ensures round { IfSome result (λ before. before.round ≤ room.now.spec.rounds) }
     ensures simulator { result ≢ None → i < room.now.spec.simulators }
 {
-    if i >= simulator_count(room) || mind_of(room, i).resting() {
+    if i >= simulator_count(room) || !may_take_effect(mind_of(room, i).line()) {
         return None;
     }
     let process = process_on(room, i);
@@ -208,6 +208,14 @@ pub(crate) fn look(room: &RoomCore, i: usize) -> Option<Before>
         decided: has_out(room, process),
         ends_collect: ends_collect(room, i),
     })
+}
+
+/// Whether something may take effect by a step at this line: it counts a write, loads a memory word of a scan, or stores a decision.
+fn may_take_effect(line: Line) -> bool
+    ensures value { result ≡ may_take_effect line }
+    ensures open { result ≡ true → is_resting line ≡ false }
+{
+    matches!(line, Line::Raise | Line::Snap | Line::Out { .. })
 }
 
 /// What simulator `i` has in mind.

@@ -3,7 +3,7 @@ ghost use Rattle.std.specs.Prelude.{◌≡◌, ℕ, ◌<◌, ◌≤◌, ◌==◌
 ghost use Rattle.protocol_lang.specs.Numbers.{greatest};
 ghost use Rattle.room_spec.specs.Rooms.{IsWithinLimits, processes};
 ghost use Rattle.room_spec.specs.Sizes.{memory_words, sizes_in};
-ghost use Rattle.view_table.specs.Places.{IsPlace, IsRound};
+ghost use Rattle.view_table.specs.Places.{IsAgreementRound, IsPlace, IsRound};
 ghost use Rattle.view_table.specs.Words.{word_at};
 ghost use Rattle.view_table.specs.declared.place.Place.TheVariants.{Levels};
 ghost use Rattle.sim_memory.specs.Steps.{row_of, step_in};
@@ -57,6 +57,7 @@ pub(crate) fn shape_of(room: &RoomCore) -> Shape
 }
 
 /// The word at this place.
+#[inline(always)]
 fn word_at(room: &RoomCore, place: Place) -> u64
     requires { IsPlace (sizes_in room.now.spec) place }
     ensures { result ≡ word_at (sizes_in room.now.spec) room.now.words place }
@@ -136,12 +137,12 @@ pub(crate) fn greatest_steps(room: &RoomCore) -> Row
     row_of(room.spec(), memory(room))
 }
 
-/// The level of simulator `i` in the agreement on process `j` and round `k`.
+/// The level of simulator `i` in the agreement on process `j` and round `k`, which is 0 in that on the process's input.
 #[tactic(auto, unfolding(crate::specs::Readings::read_of))]
 pub(crate) fn level(room: &RoomCore, i: usize, j: usize, k: usize) -> u8
     requires simulator { i < room.now.spec.simulators }
     requires process { j < processes room.now.spec }
-    requires round { IsRound (sizes_in room.now.spec) k }
+    requires round { IsAgreementRound (sizes_in room.now.spec) k }
     ensures { result ≡ (read_of room.now).level i j k }
 {
     let m = simulator_count(room);
@@ -152,7 +153,7 @@ pub(crate) fn level(room: &RoomCore, i: usize, j: usize, k: usize) -> u8
 /// The word of levels of the agreement on process `j` and round `k`.
 pub(crate) fn levels_word(room: &RoomCore, j: usize, k: usize) -> u64
     requires process { j < processes room.now.spec }
-    requires round { IsRound (sizes_in room.now.spec) k }
+    requires round { IsAgreementRound (sizes_in room.now.spec) k }
     ensures { result ≡ word_at (sizes_in room.now.spec) room.now.words (Levels j k) }
 {
     let levels = Place::Levels {
@@ -166,7 +167,7 @@ pub(crate) fn levels_word(room: &RoomCore, j: usize, k: usize) -> u64
 #[tactic(auto, unfolding(crate::specs::Readings::read_of))]
 pub(crate) fn least_with(room: &RoomCore, j: usize, k: usize, level: u8) -> Option<usize>
     requires process { j < processes room.now.spec }
-    requires round { IsRound (sizes_in room.now.spec) k }
+    requires round { IsAgreementRound (sizes_in room.now.spec) k }
     ensures { result ≡ position (λ one. one == level) (levels_at room.now.spec (read_of room.now) j k) }
 {
     least_at(levels_word(room, j, k), simulator_count(room), level)
@@ -191,7 +192,7 @@ fn out(room: &RoomCore, i: usize, j: usize) -> u64
 }
 
 /// The value of process `p`'s write in round `r`, as simulator `i` has it.
-#[tactic(auto, unfolding(crate::specs::Readings::read_of))]
+#[tactic(auto, unfolding(crate::specs::Readings::read_of), using(view_table::proofs::CallerLemmas::agreement_round))]
 pub(crate) fn value(room: &RoomCore, i: usize, p: usize, r: usize) -> u32
     requires simulator { i < room.now.spec.simulators }
     requires process { p < processes room.now.spec }

@@ -1,13 +1,13 @@
 //! The report of a room.
-ghost use Rattle.std.specs.Prelude.{◌≡◌, ◌≢◌, ◌+◌, ◌<◌, ◌≤◌, ℕ, IfOk, length, slice_index_or};
+ghost use Rattle.std.specs.Prelude.{◌≡◌, ◌≢◌, ◌+◌, ◌⊎◌, ◌<◌, ◌≤◌, ℕ, IfOk, false, length, slice_index_or};
 ghost use Rattle.std.specs.List.{Contains, count_by};
-ghost use Rattle.room_spec.specs.Rooms.{IsCertified, processes};
+ghost use Rattle.room_spec.specs.Rooms.{IsCertified, is_reduction, processes};
 ghost use Rattle.room_core.specs.Fields.{Fields};
 ghost use Rattle.room_core.specs.Reading.{AreFieldsOf};
 ghost use Rattle.room_core.specs.Settled.{IsSettledFor, crashed_in};
 ghost use Rattle.ws_history.specs.declared.states.ProcessState.TheVariants.{Going, Held, Spent};
 ghost use Rattle.ws_history.specs.Readings.{read_of};
-ghost use Rattle.ws_history.specs.Reports.{IsReportTo, IsTrueReport, held_by, held_in, is_decided, is_inside, is_over, is_spent, report_of, state_of, states_of};
+ghost use Rattle.ws_history.specs.Reports.{IsReportTo, IsTrueReport, held_by, held_in, is_decided, is_inside, is_inside_input, is_over, is_spent, report_of, state_of, states_of};
 
 use crate::agreements::{asks, is_clean};
 use crate::event_sink::EventSink;
@@ -32,8 +32,8 @@ use std::alloc::{AllocError, Global};
 pub fn report(alloc: Global, room: &RoomCore) -> Result<Report, AllocError>
     // It is that of any fields that the room stands for.
     ensures fields { (fields : Fields) → AreFieldsOf room.now fields → IfOk result (λ report. report ≡ report_of room.now.spec fields) }
-    // The history is a run of the processes on write-snapshot memory, with each process's decision and no other; and at most as
-    // many processes are held as simulators have crashed.
+    // The history is a run of the processes on write-snapshot memory, in a reduction from inputs that are the simulators' own, with each process's
+    // decision and no other; and at most as many processes are held as simulators have crashed.
     ensures truth { (fields : Fields) → AreFieldsOf room.now fields → IfOk result (IsTrueReport room.now.spec fields) }
     // Those that are held are among all that have no decision and an agreement inside which a simulator has crashed.
     ensures among { (fields : Fields) →
@@ -45,15 +45,22 @@ pub fn report(alloc: Global, room: &RoomCore) -> Result<Report, AllocError>
     ensures settled { (fields : Fields) →
         AreFieldsOf room.now fields → ((j : ℕ) → j < processes room.now.spec → IsSettledFor room.now.spec fields j) →
         IfOk result (λ report. processes room.now.spec ≤ count_by is_over report.states.items + length report.crashed.items) }
-    // In a room of a protocol that waits for all but f processes, with two rounds or more, no process is spent; so where each has
-    // settled, all have decided but for at most as many as simulators have crashed.
+    // In an ordinary room of a protocol that waits for all but f processes, with two rounds or more, no process is spent, and so it is in a
+    // reduction with f + 1 simulators or fewer; so if each has settled, all have decided but for at most as many as simulators have crashed.
     ensures unspent { (f : ℕ) →
-        IsCertified room.now.spec f → 2 ≤ room.now.spec.rounds →
+        IsCertified room.now.spec f → (is_reduction room.now.spec ≡ false) ⊎ (room.now.spec.simulators ≤ f + 1) → 2 ≤ room.now.spec.rounds →
         IfOk result (λ report. (j : ℕ) → j < processes room.now.spec → slice_index_or report.states.items j Going ≢ Spent) }
     ensures certified { (fields : Fields) →
-        AreFieldsOf room.now fields → (f : ℕ) → IsCertified room.now.spec f → 2 ≤ room.now.spec.rounds →
+        AreFieldsOf room.now fields → (f : ℕ) → IsCertified room.now.spec f →
+        (is_reduction room.now.spec ≡ false) ⊎ (room.now.spec.simulators ≤ f + 1) → 2 ≤ room.now.spec.rounds →
         ((j : ℕ) → j < processes room.now.spec → IsSettledFor room.now.spec fields j) →
         IfOk result (λ report. processes room.now.spec ≤ count_by is_decided report.states.items + length report.crashed.items) }
+    // In every room of such a protocol, also in a reduction, more than f have decided then if no simulator has crashed, and one less for each
+    // that has.
+    ensures most { (fields : Fields) →
+        AreFieldsOf room.now fields → (f : ℕ) → IsCertified room.now.spec f →
+        ((j : ℕ) → j < processes room.now.spec → IsSettledFor room.now.spec fields j) →
+        IfOk result (λ report. f < count_by is_decided report.states.items + length report.crashed.items) }
 {
     let _shape = shape_of(room); // for the proof: the room stands for some fields
     let history = history(alloc, room)?;
@@ -140,7 +147,7 @@ fn is_spent(room: &RoomCore, j: usize) -> bool
     is_clean(room, j, last) && matches!(asks(room, j, last), Action::Write(_))
 }
 
-/// The least simulator that has crashed inside an agreement on a snapshot of process `j`.
+/// The least simulator that has crashed inside an agreement on a snapshot of process `j`, or on its input.
 fn held_by(room: &RoomCore, j: usize) -> Option<u8>
     requires { j < processes room.now.spec }
     ensures { result ≡ held_by room.now.spec (read_of room.now) j }
@@ -153,16 +160,29 @@ fn held_by(room: &RoomCore, j: usize) -> Option<u8>
     None
 }
 
-/// Whether simulator `i` is at level 1 in an agreement on a snapshot of process `j`.
+/// Whether simulator `i` is at level 1 in an agreement on a snapshot of process `j`, or in a reduction in that on its input.
+#[tactic(auto, using(view_table::proofs::CallerLemmas::agreement_round))]
 fn is_inside(room: &RoomCore, i: usize, j: usize) -> bool
     requires simulator { i < room.now.spec.simulators }
     requires process { j < processes room.now.spec }
     ensures { result ≡ is_inside room.now.spec (read_of room.now) i j }
 {
+    if is_inside_input(room, i, j) {
+        return true;
+    }
     for r in 0..round_count(room) {
         if level(room, i, j, r + 1) == 1 {
             return true;
         }
     }
     false
+}
+
+/// Whether simulator `i` is at level 1 in the agreement on the input of process `j`, which a reduction has.
+fn is_inside_input(room: &RoomCore, i: usize, j: usize) -> bool
+    requires simulator { i < room.now.spec.simulators }
+    requires process { j < processes room.now.spec }
+    ensures { result ≡ is_inside_input room.now.spec (read_of room.now) i j }
+{
+    room.spec().is_reduction() && level(room, i, j, 0) == 1
 }

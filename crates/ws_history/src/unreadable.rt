@@ -1,8 +1,8 @@
 //! The agreements that no simulator can read at a moment.
-ghost use Rattle.std.specs.Prelude.{◌≡◌, ◌<◌, IfSome};
-ghost use Rattle.room_spec.specs.Rooms.{processes};
+ghost use Rattle.std.specs.Prelude.{◌≡◌, ◌<◌, ◌==◌, ◌&&◌, not};
+ghost use Rattle.room_spec.specs.Rooms.{is_reduction, processes};
 ghost use Rattle.room_spec.specs.Sizes.{sizes_in};
-ghost use Rattle.view_table.specs.Places.{IsRound};
+ghost use Rattle.view_table.specs.Places.{IsAgreementRound};
 ghost use Rattle.room_core.specs.Fields.{Fields};
 ghost use Rattle.room_core.specs.Reading.{AreFieldsOf};
 ghost use Rattle.ws_history.specs.Readings.{read_of};
@@ -25,7 +25,8 @@ pub struct Unreadable {
     pub blocker: Option<usize>,
 }
 
-/// What keeps the agreement on snapshot `k` of process `j` from being read, if something does. `None` also if the room has no such agreement.
+/// What keeps the agreement on snapshot `k` of process `j` from being read, if something does. In a reduction that with the number 0 is the agreement on the
+/// process's input. `None` also if the room has no such agreement.
 pub fn unreadable_agreement(room: &RoomCore, j: usize, k: usize) -> Option<Unreadable>
     ensures { (fields : Fields) → AreFieldsOf room.now fields → result ≡ unreadable_of room.now.spec fields j k }
 {
@@ -51,13 +52,20 @@ fn unreadable_in(room: &RoomCore, j: usize, k: usize) -> Option<Unreadable>
 fn is_none(room: &RoomCore, j: usize, k: usize) -> bool
     ensures { result ≡ is_none room.now.spec j k }
 {
-    j >= process_count(room) || (k == 0 || k > round_count(room))
+    j >= process_count(room) || (is_no_input(room, k) || k > round_count(room))
+}
+
+/// Whether it is the number of an agreement on an input, and the room has none.
+fn is_no_input(room: &RoomCore, k: usize) -> bool
+    ensures { result ≡ (k == 0) && not (is_reduction room.now.spec) }
+{
+    k == 0 && !room.spec().is_reduction()
 }
 
 /// The simulator whose proposal is chosen for good, if one is.
 fn chosen_of(room: &RoomCore, j: usize, k: usize) -> Option<usize>
     requires process { j < processes room.now.spec }
-    requires round { IsRound (sizes_in room.now.spec) k }
+    requires round { IsAgreementRound (sizes_in room.now.spec) k }
     ensures { result ≡ chosen_of room.now.spec (read_of room.now) j k }
 {
     if is_fixed(room, j, k) {
@@ -70,7 +78,7 @@ fn chosen_of(room: &RoomCore, j: usize, k: usize) -> Option<usize>
 /// The least simulator that has crashed in the unsafe section, if one has.
 fn blocker_of(room: &RoomCore, j: usize, k: usize) -> Option<usize>
     requires process { j < processes room.now.spec }
-    requires round { IsRound (sizes_in room.now.spec) k }
+    requires round { IsAgreementRound (sizes_in room.now.spec) k }
     ensures { result ≡ blocker_of room.now.spec (read_of room.now) j k }
 {
     for i in 0..simulator_count(room) {

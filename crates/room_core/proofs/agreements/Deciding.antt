@@ -9,11 +9,13 @@ use Rattle.simulator.specs.declared.goal.Goal.TheVariants as goals
 use Rattle.simulator.specs.Minds.{current_goal, goal_at, is_unfinished}
 use Rattle.room_core.specs.Fields.{Fields, changed}
 use Rattle.room_core.proofs.fields.Maps.{changed_else}
-use Rattle.room_core.proofs.fields.Effects.{Own, Effect, stores, raises, collects_word, collects_again, scans, shows_word, shows, loads_word, enters, looks, leaves, asks_in_vain, finds, gathers, goes_to, will_decide, decides}
+use Rattle.room_core.proofs.fields.Effects.{Own, Effect, stores, proposes, raises, collects_word, collects_again, scans, shows_word, shows, loads_word, enters, looks, leaves, asks_in_vain, finds, gets_input, gathers, goes_to, will_decide, decides}
 
 pub not_done : (goal : Goal) → is_unfinished goal ≡ true → goal ≢ goals.Done
 not_done (goals.Write k value) left is = cc
 not_done (goals.Ask k) left is = cc
+not_done (goals.Propose value) left is = cc
+not_done goals.AskInput left is = cc
 not_done goals.Done left is = cc
 not_done goals.Spent left is = cc
 
@@ -34,10 +36,12 @@ module _ (spec : RoomSpec) (fields : Fields) (own : Own) (p : ℕ) where
 
   pub own_outs : (after : Own) → Effect spec fields own after → HasDecided own p → HasDecided after p
   own_outs after (stores j k value rest goal count process first last) was = was
+  own_outs after (proposes j value rest goal none unentered within kind) was = was
   own_outs after (raises turn whole begun count) was = was
   own_outs after (collects_word turn count none more) was = was
   own_outs after (collects_again turn count none last several goes) was = was
   own_outs after (scans collects turn count none last ends) was = was
+  own_outs after (gets_input chosen turn count less) was = ended_outs own.mind.goals own.mind.process _ refl turn.left was
   own_outs after (loads_word found turn less more) was = was
   own_outs after (shows_word turn count none more) was = was
   own_outs after (shows turn count none last) was = was
@@ -56,10 +60,12 @@ module _ (spec : RoomSpec) (fields : Fields) (own : Own) (p : ℕ) where
   -- what is stored stays
   pub own_kept : (after : Own) → Effect spec fields own after → HasDecided own p → own.out p ≢ 0 → after.out p ≡ own.out p
   own_kept after (stores j k value rest goal count process first last) was out = refl
+  own_kept after (proposes j value rest goal none unentered within kind) was out = refl
   own_kept after (raises turn whole begun count) was out = refl
   own_kept after (collects_word turn count none more) was out = refl
   own_kept after (collects_again turn count none last several goes) was out = refl
   own_kept after (scans collects turn count none last ends) was out = refl
+  own_kept after (gets_input chosen turn count less) was out = refl
   own_kept after (loads_word found turn less more) was out = refl
   own_kept after (shows_word turn count none more) was out = refl
   own_kept after (shows turn count none last) was out = refl

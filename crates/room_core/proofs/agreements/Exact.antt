@@ -14,7 +14,7 @@ use Rattle.room_core.specs.Moments.{IsMoment, IsScan}
 use Rattle.room_core.specs.Fields.{StepMap, Fields, opening_fields, line, with_crash, fields_after, replay_fields, entry_of_steps}
 use Rattle.room_core.specs.Tracks.{KeepsTrack, StandsFor}
 use Rattle.room_core.proofs.fields.FieldReplays.{event_stands, stands_for}
-use Rattle.room_core.proofs.agreements.Stages.{Progress, Uncounted, Fresh, Scanned, Shown, Inside, Seen, Past, later, phase_of, phases_in, level_is}
+use Rattle.room_core.proofs.agreements.Stages.{Progress, Uncounted, Fresh, Scanned, Shown, Inside, Seen, Past, later, phase_of, phase_begun, has_to_propose, held_back, not_held_back, phases_in, level_is}
 use Rattle.room_core.proofs.fields.Effects.{Own, own_of, IsLineOf, line_effect}
 use Rattle.room_core.proofs.agreements.PhaseSteps.{advances}
 use Rattle.room_core.proofs.fields.Prefixes.{over_run}
@@ -44,7 +44,8 @@ pub record IsExact (spec : RoomSpec) (schedule : List ScheduleEvent) (fields : F
 -- who hasn't proposed isn't at level 2
 pub scanned_level : (spec : RoomSpec) (fields : Fields) (i p r : ℕ) → KeepsTrack spec fields → progress_own (own_of fields i) p r ≡ Scanned → fields.level i p r ≢ 2
 scanned_level spec fields i p r tracks is two =
-    let zero : fields.level i p r ≡ 0 = level_is spec.rounds (fields.mind i) (fields.step i) (fields.level i) (tracks.told i) p r ∙ ap (λ (q : Progress). phase_level (phase_of q (fields.level i p r))) is in
+    let zero : fields.level i p r ≡ 0 = level_is spec.rounds (fields.mind i) (fields.step i) (fields.level i) (tracks.told i) p r
+    ∙ held_back (has_to_propose (fields.mind i) p) (phase_begun (fields.mind i) (fields.step i) (fields.level i) p r) (ap (λ (q : Progress). phase_level (phase_of q (fields.level i p r))) is) in
     omega (arith, zero, two)
 
 two_shown : (progress : Progress) (level : ℕ) → phase_level (phase_of progress level) ≡ 2 → HasShown progress
@@ -58,7 +59,7 @@ two_shown Past level two = tt
 
 pub at_two : (spec : RoomSpec) (fields : Fields) (i p r : ℕ) → KeepsTrack spec fields → fields.level i p r ≡ 2 → HasShown (progress_own (own_of fields i) p r)
 at_two spec fields i p r tracks two =
-    two_shown (progress_own (own_of fields i) p r) (fields.level i p r) (sym (level_is spec.rounds (fields.mind i) (fields.step i) (fields.level i) (tracks.told i) p r) ∙ two)
+    two_shown (progress_own (own_of fields i) p r) (fields.level i p r) (not_held_back (has_to_propose (fields.mind i) p) (phase_begun (fields.mind i) (fields.step i) (fields.level i) p r) (sym (level_is spec.rounds (fields.mind i) (fields.step i) (fields.level i) (tracks.told i) p r) ∙ two))
 
 -- nobody has counted more than this round, or its agreement is fixed already
 most_or_fixed : (spec : RoomSpec) (fields : Fields) → 0 < spec.simulators → KeepsTrack spec fields → IsSound spec fields → (p r : ℕ) → 1 ≤ r → ShowsAtMost spec fields.step p r ⊎ IsFixed spec.simulators (phases_in fields p r)

@@ -1,5 +1,5 @@
 -- Whether an agreement is fixed, as a test.
-use Rattle.std.proofs.Common.{◌≡◌, ℕ, ◌<◌, ◌&&◌, Bool, true, false, not, eqb, List, length, map, get_or, inl, inr, refl, sym, ap, ◌∙◌, subst, arith}
+use Rattle.std.proofs.Common.{◌≡◌, ℕ, ◌<◌, ◌&&◌, Bool, true, false, not, eqb, get_or, refl, sym, ap, ◌∙◌, subst, arith}
 use Rattle.std.specs.List.{range_with_len, list_any}
 use Rattle.std.proofs.lemmas.Bool.{eq-eqb, eqb-true, not-true, and_parts, and_from}
 use Rattle.std.proofs.lemmas.List.{get_or_read}
@@ -8,7 +8,7 @@ use Rattle.std.proofs.lemmas.List.Folds.{Any-from_list_any, list_any_at}
 use Rattle.room_spec.specs.Rooms.{RoomSpec, processes}
 use Rattle.safe_agreement.specs.Levels.{has_level}
 use Rattle.simulator.specs.declared.line.Line.{Line}
-use Rattle.simulator.specs.declared.line.Line.TheVariants.{Rest, Raise, Snap, Show, Enter, Look, Leave, Ask, GetView, Values, Out}
+use Rattle.simulator.specs.declared.line.Line.TheVariants.{Rest, Raise, Snap, Show, Enter, Look, Leave, Ask, GetInput, GetView, Values, Out}
 use Rattle.simulator.specs.Minds.{current_round}
 use Rattle.room_core.specs.Fields.{Fields, levels_at}
 use Rattle.room_core.specs.Points.{HasFixed, IsFixedIn}
@@ -28,6 +28,7 @@ leaving Show is = absurd (let wrong : false ≡ true = is in cc)
 leaving Enter is = absurd (let wrong : false ≡ true = is in cc)
 leaving Look is = absurd (let wrong : false ≡ true = is in cc)
 leaving Ask is = absurd (let wrong : false ≡ true = is in cc)
+leaving (GetInput chosen) is = absurd (let wrong : false ≡ true = is in cc)
 leaving (GetView chosen) is = absurd (let wrong : false ≡ true = is in cc)
 leaving Values is = absurd (let wrong : false ≡ true = is in cc)
 leaving (Out decision) is = absurd (let wrong : false ≡ true = is in cc)

@@ -86,6 +86,7 @@ agreements_stay room fields call limits are =
       fixed = stays.fixed;
       same_view = stays.view;
       same_action = stays.asks;
+      inputs = stays.input;
       decided = λ j decision low is.
           let out = decided_out room.spec fields j decision is in
           let some : fields.out out.0 j ≢ 0 = λ none. omega (arith, none, out.2) in
@@ -100,6 +101,7 @@ agreements_last room fields [] limits are = record {
   fixed = λ j k at. at;
   same_view = λ j k first at. refl;
   same_action = λ j k first at. refl;
+  inputs = λ j input low is. is;
   decided = λ j decision low is. is;
   simulators = λ i decision is. is;
 }
@@ -113,6 +115,7 @@ agreements_last room fields (call ∷ calls) limits are =
       fixed = λ j k at. rest.fixed j k (here.fixed j k at);
       same_view = λ j k first at. rest.same_view j k first (here.fixed j k at) ∙ here.same_view j k first at;
       same_action = λ j k first at. rest.same_action j k first (here.fixed j k at) ∙ here.same_action j k first at;
+      inputs = λ j input low is. rest.inputs j input low (here.inputs j input low is);
       decided = λ j decision low is. rest.decided j decision low (here.decided j decision low is);
       simulators = λ i decision is. rest.simulators i decision (here.simulators i decision is);
     }

@@ -1,13 +1,10 @@
 -- What a simulator has decided it has stored as the decision of some process, and it stays so.
-use Rattle.std.proofs.Common.{◌≡◌, ◌≢◌, ℕ, ◌+◌, ◌<◌, true, Option, Some, None, refl, sym, ap, ◌∙◌, subst, arith}
-use mathlib.Core.Logic.{dite}
-use native.Mathlib.Decide.{ℕ_discrete}
+use Rattle.std.proofs.Common.{◌≡◌, ◌≢◌, ℕ, ◌+◌, ◌<◌, true, Option, Some, None, refl, sym, ap, ◌∙◌, arith}
 use Rattle.room_spec.specs.Rooms.{RoomSpec, processes}
-use Rattle.simulator.specs.declared.goal.Goal.TheVariants as goals
 use Rattle.simulator.specs.Minds.{MindOf, current_goal, goal_at, is_unfinished, or_else}
 use Rattle.room_core.specs.Fields.{StepMap, Fields, changed}
 use Rattle.room_core.proofs.fields.Maps.{changed_here, changed_else}
-use Rattle.room_core.proofs.fields.Effects.{Own, IsReading, Loads, loads_view, loads_value, Effect, stores, raises, collects_word, collects_again, scans, shows_word, shows, loads_word, enters, looks, leaves, asks_in_vain, finds, gathers, goes_to, will_decide, decides}
+use Rattle.room_core.proofs.fields.Effects.{Own, IsReading, Loads, loads_view, loads_value, Effect, stores, proposes, raises, collects_word, collects_again, scans, shows_word, shows, loads_word, enters, looks, leaves, asks_in_vain, finds, gets_input, gathers, goes_to, will_decide, decides}
 use Rattle.room_core.proofs.agreements.Deciding.{HasDecided, not_done}
 
 -- what a step makes of its own decision, and of those of processes that it has stored
@@ -30,10 +27,12 @@ module _ (spec : RoomSpec) (fields : Fields) (own : Own) where
 
   step_of : (after : Own) → Effect spec fields own after → DecisionStep spec own after
   step_of after (stores j k value rest goal count process first last) = keeps refl refl
+  step_of after (proposes j value rest goal none unentered within kind) = keeps refl refl
   step_of after (raises turn whole begun count) = keeps refl refl
   step_of after (collects_word turn count none more) = keeps refl refl
   step_of after (collects_again turn count none last several goes) = keeps refl refl
   step_of after (scans collects turn count none last ends) = keeps refl refl
+  step_of after (gets_input chosen turn count less) = keeps refl refl
   step_of after (loads_word found turn less more) = keeps refl refl
   step_of after (shows_word turn count none more) = keeps refl refl
   step_of after (shows turn count none last) = keeps refl refl

@@ -1,12 +1,12 @@
 -- What a room promises of its agreements, its writes and its decisions.
-use Rattle.std.proofs.Common.{◌≡◌, ◌≢◌, ◌⊎◌, ℕ, ◌+◌, ◌-◌, ◌<◌, ◌≤◌, ◌&&◌, ◌||◌, Bool, true, false, eqb, ltb, List, get_or, inl, inr, refl, sym, ap, ◌∙◌, subst, arith}
+use Rattle.std.proofs.Common.{◌≡◌, Contains, ◌≢◌, ◌⊎◌, ℕ, ◌+◌, ◌-◌, ◌<◌, ◌≤◌, ◌&&◌, ◌||◌, Bool, true, false, eqb, ltb, List, get_or, inl, inr, refl, sym, ap, ◌∙◌, subst, arith}
 use Rattle.std.proofs.lemmas.Bool.{lt-ltb, ltb-true, eqb-true, eqb-false, not-true, and_parts, or_left, or_right}
 use Rattle.std.proofs.lemmas.List.{get_or_read}
 use Rattle.std.proofs.lemmas.List.FromFn.{length-map-range_with_len, get_or-map-range_with_len}
 use Rattle.std.proofs.lemmas.List.Folds.{Any-from_list_any}
 use Rattle.protocol_lang.specs.Meaning.{first_value}
 use Rattle.protocol_lang.specs.declared.meaning.Action.TheVariants as actions
-use Rattle.room_spec.specs.Rooms.{RoomSpec, IsWithinLimits, processes}
+use Rattle.room_spec.specs.Rooms.{RoomSpec, IsWithinLimits, is_reduction, processes}
 use Rattle.safe_agreement.specs.Levels.{IsClean, has_level}
 use Rattle.safe_agreement.proofs.CallerLemmas.{no_level_at}
 use Rattle.sim_memory.specs.Steps.{IsRowAtMost, row_of, merged_of}
@@ -24,7 +24,8 @@ use Rattle.room_core.proofs.agreements.Fixing.{IsPassed, clean, written, decided
 use Rattle.room_core.proofs.agreements.Exact.{room_entry, room_rows}
 use Rattle.room_core.proofs.moments.Contents.{written_is}
 use Rattle.room_core.proofs.values.Known.{IsKnown, decided_last, view_is, view_within}
-use Rattle.room_core.proofs.values.Knowing.{fields_known}
+use Rattle.room_core.proofs.values.Knowing.{fields_inputs, fields_known}
+use Rattle.room_core.proofs.agreements.Inputs.{first_own, input_is, known_value, own_at, unknown_input}
 use Rattle.room_core.proofs.agreements.Agreed.{fields_within}
 
 -- ---- passed, as a test
@@ -152,7 +153,7 @@ module _ (room : RoomState) (fields : Fields) (limits : IsWithinLimits room.spec
       subst (λ (value : ℕ). IsDue room.spec fields p r value) (written_is room.spec fields who.0 p r known.values who.1 within first counted)
       (known.values who.0 p r who.1 within first counted)
 
-  first_due : (p value : ℕ) → IsDue room.spec fields p 1 value → value ≡ first_value room.spec.protocol (get_or room.spec.inputs p 0) p (processes room.spec)
+  first_due : (p value : ℕ) → IsDue room.spec fields p 1 value → value ≡ first_value room.spec.protocol (passed.input_at room.spec fields p) p (processes room.spec)
   first_due p value (first_write one is) = is
   first_due p value (next_write k first round fixed act) = absurd (omega (arith, first, round))
 
@@ -162,12 +163,23 @@ module _ (room : RoomState) (fields : Fields) (limits : IsWithinLimits room.spec
       let same : r ≡ k = omega (arith, round) in
       ap (λ (q : ℕ). asks room.spec fields p q) same ∙ act
 
+  -- in a reduction each input is a simulator's own: that which was agreed on, or the first simulator's
+  own_input : (p : ℕ) → p < processes room.spec → is_reduction room.spec ≡ true → Contains room.spec.own (passed.input_at room.spec fields p)
+  own_input p within kind = by_bool (passed.is_input_known room.spec fields p) refl
+    where
+      by_bool : (b : Bool) → passed.is_input_known room.spec fields p ≡ b → Contains room.spec.own (passed.input_at room.spec fields p)
+      by_bool true is =
+          let value = known_value room.spec fields tracks (fields_sound room fields limits are) (fields_inputs room fields limits are) p within is in
+          subst (Contains room.spec.own) (sym (input_is room.spec fields tracks (fields_sound room fields limits are) (fields_inputs room fields limits are) p within is)) (own_at room.spec (passed.shown_of room.spec fields p 0) limits value.0 kind)
+      by_bool false is = subst (Contains room.spec.own) (sym (unknown_input room.spec fields p is)) (first_own room.spec p limits within kind)
+
   pub rooms_agree : HasAgreed room.spec fields
   rooms_agree = record {
     passed_is_fixed = λ j k within first is. passed_fixed j k within first is;
     own_entry_is_exact = λ j k within first last is. own_entry j k within first is;
     snapshots_compare = λ j k p r within first last is within' first' last' is'. compare j k p r within first is within' first' is';
     row_is_within = λ j k p within first last is below. within_steps j k p within first is below;
+    inputs_are_own = λ p below kind. own_input p below kind;
     steps_are_within = λ p below. merged_below room.spec.simulators fields.step p room.spec.rounds (λ i low. tracks.range.step i p);
     first_is_due = λ p below first. first_due p (passed.written room.spec fields p 1) (value_due p 1 below (omega arith) first);
     next_is_due = λ p r below first less. next_due p r (passed.written room.spec fields p (r + 1)) first (value_due p (r + 1) below (omega arith) (omega (arith, less)));

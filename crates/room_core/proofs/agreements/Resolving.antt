@@ -1,6 +1,6 @@
 -- Up to which round a simulator has found the agreements of a process resolved, and how a line moves that on.
-use Rattle.std.proofs.Common.{◌≡◌, ◌≢◌, ◌⊎◌, ℕ, ◌+◌, ◌-◌, ◌<◌, Bool, true, false, cond, eqb, ltb, List, length, get_or, set, Some, inl, inr, refl, sym, ap, ◌∙◌, arith}
-use Rattle.std.proofs.lemmas.Bool.{eq-eqb, ne_eqb}
+use Rattle.std.proofs.Common.{◌≡◌, ◌≢◌, ◌⊎◌, ℕ, zero, suc, ◌+◌, ◌-◌, ◌<◌, ◌≤◌, Bool, true, false, cond, eqb, ltb, min, List, length, get_or, set, Some, inl, inr, refl, sym, ap, ◌∙◌, arith}
+use Rattle.std.proofs.lemmas.Bool.{eq-eqb, ne_eqb, cases_lt}
 use Rattle.std.proofs.lemmas.List.{get_or-set_same, get_or-set_other}
 use mathlib.Core.Logic.{dite}
 use native.Mathlib.Decide.{ℕ_discrete}
@@ -11,11 +11,12 @@ use Rattle.simulator.specs.declared.line.Line.{Line}
 use Rattle.simulator.specs.declared.line.Line.TheVariants.{Raise}
 use Rattle.simulator.specs.declared.turn.Turn.{Turn}
 use Rattle.simulator.specs.declared.turn.Turn.TheVariants.{Useful, Quiet}
-use Rattle.simulator.specs.Minds.{MindOf, goal_at, current_goal, current_round, is_unfinished, round_of}
-use Rattle.simulator.specs.Turns.{ended, after_write}
+use Rattle.simulator.specs.Minds.{MindOf, goal_at, current_goal, current_round, first_write, is_unfinished, round_of}
+use Rattle.simulator.specs.Turns.{ended, after_write, asks_in, gets_in}
+use Rattle.protocol_lang.specs.Numbers.{greatest}
 use Rattle.room_core.specs.Fields.{StepMap, Fields, chosen_at, changed}
 use Rattle.room_core.proofs.fields.Maps.{changed_else}
-use Rattle.room_core.proofs.fields.Effects.{Own, process_on, round_on, is_reading, IsAsking, Effect, stores, raises, collects_word, collects_again, scans, shows_word, shows, loads_word, enters, looks, leaves, asks_in_vain, finds, gathers, goes_to, will_decide, decides}
+use Rattle.room_core.proofs.fields.Effects.{Own, process_on, round_on, is_reading, IsAsking, Effect, stores, proposes, raises, collects_word, collects_again, scans, shows_word, shows, loads_word, enters, looks, leaves, asks_in_vain, finds, gets_input, gathers, goes_to, will_decide, decides}
 
 -- The rounds before that of a goal that is left to do, with its own where the open turn has got what was chosen; and all that were counted
 -- of a process that is done or spent.
@@ -24,6 +25,8 @@ resolved_by (goals.Write k value) true step = k
 resolved_by (goals.Write k value) false step = k - 1
 resolved_by (goals.Ask k) true step = k
 resolved_by (goals.Ask k) false step = k - 1
+resolved_by (goals.Propose value) reading step = 0
+resolved_by goals.AskInput reading step = 0
 resolved_by goals.Done reading step = step
 resolved_by goals.Spent reading step = step
 
@@ -40,24 +43,43 @@ any_step (goals.Write k value) true step step' left = refl
 any_step (goals.Write k value) false step step' left = refl
 any_step (goals.Ask k) true step step' left = refl
 any_step (goals.Ask k) false step step' left = refl
+any_step (goals.Propose value) reading step step' left = refl
+any_step goals.AskInput reading step step' left = refl
 any_step goals.Done reading step step' left = absurd cc
 any_step goals.Spent reading step step' left = absurd cc
 
 unread_is : (goal : Goal) (step : ℕ) → is_unfinished goal ≡ true → resolved_by goal false step ≡ round_of goal - 1
 unread_is (goals.Write k value) step left = refl
 unread_is (goals.Ask k) step left = refl
+unread_is (goals.Propose value) step left = refl
+unread_is goals.AskInput step left = refl
 unread_is goals.Done step left = absurd cc
 unread_is goals.Spent step left = absurd cc
 
 read_is : (goal : Goal) (step : ℕ) → is_unfinished goal ≡ true → resolved_by goal true step ≡ round_of goal
 read_is (goals.Write k value) step left = refl
 read_is (goals.Ask k) step left = refl
+read_is (goals.Propose value) step left = refl
+read_is goals.AskInput step left = refl
 read_is goals.Done step left = absurd cc
 read_is goals.Spent step left = absurd cc
 
 next_by : (b : Bool) (k value step : ℕ) → step ≡ k → resolved_by (cond b (goals.Write (k + 1) value) goals.Spent) false step ≡ k
 next_by true k value step same = omega arith
 next_by false k value step same = same
+
+asks_is : (round step : ℕ) → resolved_by (asks_in round) false step ≡ round - 1
+asks_is zero step = refl
+asks_is (suc round) step = refl
+
+-- the line after a choice reads, unless it gets an input
+gets_reads : (round chosen : ℕ) → 1 ≤ round → is_reading (gets_in round chosen) ≡ true
+gets_reads zero chosen first = absurd (omega arith)
+gets_reads (suc round) chosen first = refl
+
+gets_none : (round chosen : ℕ) → round ≡ 0 → is_reading (gets_in round chosen) ≡ false
+gets_none zero chosen none = refl
+gets_none (suc round) chosen none = absurd (omega (arith, none))
 
 unread_at : (line : Line) (b : Bool) → is_reading line ≡ false → cond (is_reading line) b false ≡ false
 unread_at line b is = ap (λ (reading : Bool). cond reading b false) is
@@ -127,16 +149,15 @@ module _ (spec : RoomSpec) (fields : Fields) (own : Own) (p : ℕ) where
       ∙ ap (λ (q : ℕ). resolved_by (goal_at own.mind.goals p) (eqb p q) (own.step p)) same'
       ∙ ap (λ (b : Bool). resolved_by (goal_at own.mind.goals p) b (own.step p)) (sym (read_at own.mind.line (eqb p own.mind.process) was))
 
-  found_effect : (asking mind : MindOf StepMap) (chosen : ℕ) → IsAsking spec own asking → chosen_at spec fields asking.process (current_round asking) ≡ Some chosen → mind.goals ≡ asking.goals → mind.process ≡ asking.process → is_reading mind.line ≡ true
+  found_effect : (asking mind : MindOf StepMap) (chosen : ℕ) → IsAsking spec own asking → 1 ≤ current_round asking → chosen_at spec fields asking.process (current_round asking) ≡ Some chosen → mind.goals ≡ asking.goals → mind.process ≡ asking.process → is_reading mind.line ≡ true
       → (resolved_in mind own.step p ≡ resolved_own own p) ⊎ IsFound spec fields p (resolved_own own p) (resolved_in mind own.step p)
-  found_effect asking mind chosen asks is same same' reads = dite (ℕ_discrete p asking.process)
+  found_effect asking mind chosen asks first is same same' reads = dite (ℕ_discrete p asking.process)
       (λ (e : p ≡ asking.process).
       let before = asking_is asking asks e in
       let after : resolved_in mind own.step p ≡ current_round asking =
       ap (λ (b : Bool). resolved_by (goal_at mind.goals p) b (own.step p)) (read_at mind.line (eqb p mind.process) reads ∙ eq-eqb p mind.process (e ∙ sym same'))
       ∙ ap (λ (l : List Goal). resolved_by (goal_at l p) true (own.step p)) same ∙ ap (λ (q : ℕ). resolved_by (goal_at asking.goals q) true (own.step p)) e
       ∙ read_is (current_goal asking) (own.step p) asks.left in
-      let first = asks.first in
       inr (record {
         chosen = chosen;
         is = ap (λ (k : ℕ). chosen_at spec fields p k) after ∙ ap (λ (q : ℕ). chosen_at spec fields q (current_round asking)) e ∙ is;
@@ -150,6 +171,7 @@ module _ (spec : RoomSpec) (fields : Fields) (own : Own) (p : ℕ) where
 
   pub own_resolves : (after : Own) → Effect spec fields own after → (resolved_own after p ≡ resolved_own own p) ⊎ IsFound spec fields p (resolved_own own p) (resolved_own after p)
   own_resolves after (stores j k value rest goal count process first last) = inl (unread_effect after.mind refl (ap is_reading rest) refl)
+  own_resolves after (proposes j value rest goal none unentered within kind) = inl (unread_effect after.mind refl (ap is_reading rest) refl)
   own_resolves after (raises turn whole begun count) = inl (raise_effect turn.stands turn.left after.mind refl refl)
   own_resolves after (collects_word turn count none more) = inl (unread_effect after.mind refl (ap is_reading turn.stands) refl)
   own_resolves after (collects_again turn count none last several goes) = inl (unread_effect after.mind refl (ap is_reading turn.stands) refl)
@@ -161,9 +183,18 @@ module _ (spec : RoomSpec) (fields : Fields) (own : Own) (p : ℕ) where
   own_resolves after (looks turn count one) = inl (unread_effect after.mind refl (ap is_reading turn.stands) refl)
   own_resolves after (leaves saw_two turn count one) = inl (unread_effect after.mind refl (ap is_reading turn.stands) refl)
   own_resolves after (asks_in_vain asking asks is) =
-      inl (ended_effect Quiet (goals.Ask (current_round asking)) asking asks.goals (let l = asks.long in let b = asks.process in omega arith)
-      (λ e. sym (asking_is asking asks e)) (λ n. unread_at own.mind.line (eqb p own.mind.process) asks.unread))
-  own_resolves after (finds asking chosen asks is) = found_effect asking after.mind chosen asks is refl refl refl
+      inl (ended_effect Quiet (asks_in (current_round asking)) asking asks.goals (let l = asks.long in let b = asks.process in omega arith)
+      (λ e. asks_is (current_round asking) (own.step p) ∙ sym (asking_is asking asks e)) (λ n. unread_at own.mind.line (eqb p own.mind.process) asks.unread))
+  own_resolves after (finds asking chosen asks is) =
+      elim (cases_lt 0 (current_round asking)) [
+        | inl first ↦ found_effect asking after.mind chosen asks (omega (arith, first)) is refl refl (gets_reads (current_round asking) chosen (omega (arith, first)))
+        | inr none ↦ inl (unread_effect after.mind asks.goals asks.unread (gets_none (current_round asking) chosen (omega (arith, none))))
+      ]
+  own_resolves after (gets_input chosen turn count less) =
+      inl (ended_effect Useful (first_write spec (min (fields.value chosen (process_on own) 0) greatest) (process_on own)) own.mind refl (let l = turn.long in let b = turn.process in omega arith)
+      (λ e. sym (ap (λ (b : Bool). resolved_by (goal_at own.mind.goals p) b (own.step p)) (unread_at own.mind.line (eqb p own.mind.process) (ap is_reading turn.stands))
+      ∙ ap (λ (q : ℕ). resolved_by (goal_at own.mind.goals q) false (own.step p)) e ∙ unread_is (current_goal own.mind) (own.step p) turn.left ∙ ap (λ (k : ℕ). k - 1) turn.first))
+      (λ n. unread_at own.mind.line (eqb p own.mind.process) (ap is_reading turn.stands)))
   own_resolves after (gathers reading reads more) = inl (still_effect after.mind reads.goals reads.same reads.reads refl)
   own_resolves after (goes_to reading value reads all is) =
       let round : current_round reading ≡ round_on own = ap (λ (l : List Goal). round_of (goal_at l reading.process)) reads.goals ∙ ap (λ (q : ℕ). round_of (goal_at own.mind.goals q)) reads.same in

@@ -1,6 +1,6 @@
 -- How far a simulator has come in each agreement, as its step number and its line tell, and its phase there. The levels are
 -- those of the phases.
-use Rattle.std.proofs.Common.{◌≡◌, ◌≢◌, ◌⊎◌, ℕ, ◌+◌, ◌<◌, ◌≤◌, Bool, true, false, cond, eqb, ltb, map, inl, inr, refl, sym, ap, ◌∙◌, arith}
+use Rattle.std.proofs.Common.{◌≡◌, ◌≢◌, ◌⊎◌, ℕ, zero, suc, ◌+◌, ◌<◌, ◌≤◌, Bool, true, false, cond, eqb, ltb, map, inl, inr, refl, sym, ap, ◌∙◌, arith}
 use Rattle.std.specs.List.{range_with_len}
 use Rattle.std.proofs.lemmas.Bool.{lt-ltb, le-ltb, cases_order, cases_lt}
 use mathlib.Core.Logic.{dite}
@@ -9,11 +9,13 @@ use Rattle.room_spec.specs.Rooms.{RoomSpec}
 use Rattle.safe_agreement.specs.Phases.{Phase, Before, Entered, Looked, Left, phase_level, phase_levels}
 use Rattle.simulator.specs.declared.goal.Goal.{Goal}
 use Rattle.simulator.specs.declared.line.Line.{Line}
-use Rattle.simulator.specs.declared.line.Line.TheVariants.{Rest, Raise, Snap, Show, Enter, Look, Leave, Ask, GetView, Values, Out}
-use Rattle.simulator.specs.Minds.{MindOf, current_goal, round_of}
+use Rattle.simulator.specs.declared.line.Line.TheVariants.{Rest, Raise, Snap, Show, Enter, Look, Leave, Ask, GetInput, GetView, Values, Out}
+use Rattle.simulator.specs.declared.goal.Goal.TheVariants as goals
+use Rattle.simulator.specs.Minds.{MindOf, current_goal, goal_at, round_of}
+use Rattle.simulator.specs.Turns.{gets_in}
 use Rattle.room_core.specs.Fields.{StepMap, Fields, levels_at}
 use Rattle.room_core.specs.Agreements.{IsInside, IsInsideTurn}
-use Rattle.room_core.specs.Tracks.{AtRest, Counted, stage_of, stage_for, IsZeroFrom, NoOneBelow, Levels, Tells, ToldBy, KeepsTrack}
+use Rattle.room_core.specs.Tracks.{Stage, AtRest, Counted, stage_of, stage_for, rest_stage, levels_stage, IsZeroFrom, NoOneBelow, Levels, Tells, ToldBy, KeepsTrack}
 use Rattle.room_core.proofs.fields.Tracks.{inside_round, at_sweep, beside}
 use Rattle.room_core.specs.Tracks as stages
 
@@ -37,9 +39,23 @@ line_progress Enter = Shown
 line_progress Look = Inside
 line_progress (Leave saw_two) = Seen saw_two
 line_progress Ask = Past
+line_progress (GetInput chosen) = Past
 line_progress (GetView chosen) = Past
 line_progress Values = Past
 line_progress (Out decision) = Past
+
+pub gets_past : (round chosen : ℕ) → line_progress (gets_in round chosen) ≡ Past
+gets_past zero chosen = refl
+gets_past (suc round) chosen = refl
+
+-- a simulator has its own input to propose for a process, and hasn't begun to
+abbrev pub is_proposal : Goal → Bool
+is_proposal (goals.Propose value) = true
+is_proposal goal = false
+
+abbrev pub is_unproposed : Goal → Stage → Bool
+is_unproposed goal AtRest = is_proposal goal
+is_unproposed goal stage = false
 
 -- in round k, by the step number, whether the turn is on the process, and the turn's line
 abbrev pub progress_in : ℕ → ℕ → Bool → Progress → Progress
@@ -113,7 +129,7 @@ rest_level : (step k : ℕ) (here : Bool) (level : ℕ → ℕ) → IsZeroFrom (
 rest_level step k here level none = level_in step k here Past (level k) (λ less. none k (omega arith)) (λ same. past_level here (level k))
 
 counted_level : (step k : ℕ) (line : Progress) (level : ℕ → ℕ) → Levels Counted step level → phase_level (phase_of line (level k)) ≡ 0 → level k ≡ phase_level (phase_by step k true line (level k))
-counted_level step k line level all zero = level_in step k true line (level k) (λ less. all.0 k (omega arith)) (λ same. all.0 k (omega arith) ∙ sym zero)
+counted_level step k line level all none = level_in step k true line (level k) (λ less. all.0 k (omega arith)) (λ same. all.0 k (omega arith) ∙ sym none)
 
 pub line_level : (line : Line) (step k : ℕ) (level : ℕ → ℕ) → Levels (stage_of line) step level → level k ≡ phase_level (phase_by step k true (line_progress line) (level k))
 line_level Rest step k level all = rest_level step k true level all.0
@@ -124,6 +140,7 @@ line_level Enter step k level all = counted_level step k Shown level all refl
 line_level Look step k level all = level_in step k true Inside (level k) (λ less. all.0 k (omega arith)) (λ same. ap level (sym same) ∙ all.2)
 line_level (Leave saw_two) step k level all = level_in step k true (Seen saw_two) (level k) (λ less. all.0 k (omega arith)) (λ same. ap level (sym same) ∙ all.2)
 line_level Ask step k level all = rest_level step k true level all.0
+line_level (GetInput chosen) step k level all = rest_level step k true level all.0
 line_level (GetView chosen) step k level all = rest_level step k true level all.0
 line_level Values step k level all = rest_level step k true level all.0
 line_level (Out decision) step k level all = rest_level step k true level all.0
@@ -132,16 +149,57 @@ line_level (Out decision) step k level all = rest_level step k true level all.0
 away : (step k : ℕ) (line : Progress) (level : ℕ) → phase_by step k false line level ≡ phase_by step k false Past level
 away step k line level = refl
 
--- the phase of a simulator in the agreement on (p, k)
-abbrev pub phase_at : MindOf StepMap → (ℕ → ℕ) → (ℕ → ℕ → ℕ) → ℕ → ℕ → Phase
-phase_at mind step level p k = phase_by (step p) k (eqb p mind.process) (line_progress mind.line) (level p k)
+-- the phase of a simulator in the agreement on (p, k), if it has begun to propose an input of p
+abbrev pub phase_begun : MindOf StepMap → (ℕ → ℕ) → (ℕ → ℕ → ℕ) → ℕ → ℕ → Phase
+phase_begun mind step level p k = phase_by (step p) k (eqb p mind.process) (line_progress mind.line) (level p k)
 
-by_sweep : (here : Bool) (line : Line) (step k : ℕ) (level : ℕ → ℕ) → Levels (cond here (stage_of line) AtRest) step level → level k ≡ phase_level (phase_by step k here (line_progress line) (level k))
-by_sweep true line step k level all = line_level line step k level all
-by_sweep false line step k level all = rest_level step k false level all.0
+-- it has an input of p to propose, and hasn't begun to
+abbrev pub has_to_propose : MindOf StepMap → ℕ → Bool
+has_to_propose mind p = is_unproposed (goal_at mind.goals p) (stage_for mind p)
+
+-- its phase there
+abbrev pub phase_at : MindOf StepMap → (ℕ → ℕ) → (ℕ → ℕ → ℕ) → ℕ → ℕ → Phase
+phase_at mind step level p k = cond (has_to_propose mind p) Before (phase_begun mind step level p k)
+
+-- with a phase that it has begun, or none
+pub held_back : (b : Bool) (phase : Phase) → phase_level phase ≡ 0 → phase_level (cond b Before phase) ≡ 0
+held_back true phase none = refl
+held_back false phase none = none
+
+pub not_held_back : (b : Bool) (phase : Phase) → phase_level (cond b Before phase) ≡ 2 → phase_level phase ≡ 2
+not_held_back true phase two = absurd (omega arith)
+not_held_back false phase two = two
+
+-- without a proposal to make
+rest_begun : (rounds : ℕ) (goal : Goal) (here : Bool) (step k : ℕ) (level : ℕ → ℕ) → Tells rounds goal AtRest step level → level k ≡ phase_level (cond (is_proposal goal) Before (phase_by step k here Past (level k)))
+rest_begun rounds (goals.Write round value) here step k level told = rest_level step k here level told.levels.0
+rest_begun rounds (goals.Ask round) here step k level told = rest_level step k here level told.levels.0
+rest_begun rounds (goals.Propose value) here step k level told = told.levels.0 k (let none = told.counts in omega arith)
+rest_begun rounds goals.AskInput here step k level told = rest_level step k here level told.levels.0
+rest_begun rounds goals.Done here step k level told = rest_level step k here level told.levels.0
+rest_begun rounds goals.Spent here step k level told = rest_level step k here level told.levels.0
+
+line_begun : (rounds : ℕ) (goal : Goal) (line : Line) (step k : ℕ) (level : ℕ → ℕ) → Tells rounds goal (stage_of line) step level → level k ≡ phase_level (cond (is_unproposed goal (stage_of line)) Before (phase_by step k true (line_progress line) (level k)))
+line_begun rounds goal Rest step k level told = rest_begun rounds goal true step k level told
+line_begun rounds goal Raise step k level told = line_level Raise step k level told.levels
+line_begun rounds goal Snap step k level told = line_level Snap step k level told.levels
+line_begun rounds goal Show step k level told = line_level Show step k level told.levels
+line_begun rounds goal Enter step k level told = line_level Enter step k level told.levels
+line_begun rounds goal Look step k level told = line_level Look step k level told.levels
+line_begun rounds goal (Leave saw_two) step k level told = line_level (Leave saw_two) step k level told.levels
+line_begun rounds goal Ask step k level told = line_level Ask step k level told.levels
+line_begun rounds goal (GetInput chosen) step k level told = line_level (GetInput chosen) step k level told.levels
+line_begun rounds goal (GetView chosen) step k level told = line_level (GetView chosen) step k level told.levels
+line_begun rounds goal Values step k level told = line_level Values step k level told.levels
+line_begun rounds goal (Out decision) step k level told = line_level (Out decision) step k level told.levels
+
+by_sweep : (rounds : ℕ) (goal : Goal) (here : Bool) (line : Line) (step k : ℕ) (level : ℕ → ℕ) → Tells rounds goal (cond here (stage_of line) AtRest) step level
+    → level k ≡ phase_level (cond (is_unproposed goal (cond here (stage_of line) AtRest)) Before (phase_by step k here (line_progress line) (level k)))
+by_sweep rounds goal true line step k level told = line_begun rounds goal line step k level told
+by_sweep rounds goal false line step k level told = rest_begun rounds goal false step k level told
 
 pub level_is : (rounds : ℕ) (mind : MindOf StepMap) (step : ℕ → ℕ) (level : ℕ → ℕ → ℕ) → ToldBy rounds mind step level → (p k : ℕ) → level p k ≡ phase_level (phase_at mind step level p k)
-level_is rounds mind step level told p k = by_sweep (eqb p mind.process) mind.line (step p) k (level p) (told p).levels
+level_is rounds mind step level told p k = by_sweep rounds (goal_at mind.goals p) (eqb p mind.process) mind.line (step p) k (level p) (told p)
 
 -- the phases in the agreement on (p, k)
 abbrev pub phases_in : Fields → ℕ → ℕ → ℕ → Phase
@@ -169,6 +227,14 @@ counted_no_one step k level all = by_lt (cases_lt k step)
     by_lt (inl less) = all.1 k less
     by_lt (inr more) = λ one. let none = all.0 k more in omega arith
 
+goal_no_one : (goal : Goal) (step k : ℕ) (level : ℕ → ℕ) → Levels (rest_stage goal) step level → level k ≢ 1
+goal_no_one (goals.Write round value) step k level all = rest_no_one step k level all
+goal_no_one (goals.Ask round) step k level all = rest_no_one step k level all
+goal_no_one (goals.Propose value) step k level all = counted_no_one step k level all
+goal_no_one goals.AskInput step k level all = rest_no_one step k level all
+goal_no_one goals.Done step k level all = rest_no_one step k level all
+goal_no_one goals.Spent step k level all = rest_no_one step k level all
+
 inside_now : (step k : ℕ) (level : ℕ → ℕ) → Levels stages.Inside step level → level k ≡ 1 → step ≡ k
 inside_now step k level all one = by_order (cases_order step k)
   where
@@ -178,7 +244,7 @@ inside_now step k level all one = by_order (cases_order step k)
     by_order (inr (inr less)) = absurd (all.1 k less one)
 
 inside_line : (line : Line) (rounds : ℕ) (goal : Goal) (step k : ℕ) (level : ℕ → ℕ) → Tells rounds goal (stage_of line) step level → level k ≡ 1 → IsInside line × (round_of goal ≡ k)
-inside_line Rest rounds goal step k level told one = absurd (rest_no_one step k level told.levels one)
+inside_line Rest rounds goal step k level told one = absurd (goal_no_one goal step k level told.levels one)
 inside_line Raise rounds goal step k level told one = absurd (rest_no_one step k level told.levels one)
 inside_line Snap rounds goal step k level told one = absurd (counted_no_one step k level told.levels one)
 inside_line Show rounds goal step k level told one = absurd (counted_no_one step k level told.levels one)
@@ -186,6 +252,7 @@ inside_line Enter rounds goal step k level told one = absurd (counted_no_one ste
 inside_line Look rounds goal step k level told one = (tt, sym (inside_round rounds goal step told.counts) ∙ inside_now step k level told.levels one)
 inside_line (Leave saw_two) rounds goal step k level told one = (tt, sym (inside_round rounds goal step told.counts) ∙ inside_now step k level told.levels one)
 inside_line Ask rounds goal step k level told one = absurd (rest_no_one step k level told.levels one)
+inside_line (GetInput chosen) rounds goal step k level told one = absurd (rest_no_one step k level told.levels one)
 inside_line (GetView chosen) rounds goal step k level told one = absurd (rest_no_one step k level told.levels one)
 inside_line Values rounds goal step k level told one = absurd (rest_no_one step k level told.levels one)
 inside_line (Out decision) rounds goal step k level told one = absurd (rest_no_one step k level told.levels one)
@@ -198,4 +265,4 @@ one_inside spec fields tracks i j k one = dite (ℕ_discrete j (fields.mind i).p
     let own = at_sweep spec.rounds mind (fields.step i) (fields.level i) (tracks.told i) in
     let at = inside_line mind.line spec.rounds (current_goal mind) (fields.step i mind.process) k (fields.level i mind.process) own (ap (λ (p : ℕ). fields.level i p k) (sym e) ∙ one) in
     record { process = sym e; round = at.1; line = at.0 })
-    (λ (n : j ≢ (fields.mind i).process). absurd (rest_no_one (fields.step i j) k (fields.level i j) (beside spec.rounds (fields.mind i) (fields.step i) (fields.level i) (tracks.told i) j n).levels one))
+    (λ (n : j ≢ (fields.mind i).process). absurd (goal_no_one (goal_at (fields.mind i).goals j) (fields.step i j) k (fields.level i j) (beside spec.rounds (fields.mind i) (fields.step i) (fields.level i) (tracks.told i) j n).levels one))

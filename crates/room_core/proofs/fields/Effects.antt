@@ -1,36 +1,37 @@
 -- What a line does, as one relation: what the simulator that takes it has before and after. What the others have stays.
-use Rattle.std.proofs.Common.{◌≡◌, ◌≢◌, ◌⊎◌, inl, inr, eqb, ℕ, ◌+◌, ◌<◌, ◌≤◌, Bool, true, false, cond, ltb, min, [], ◌∷◌, ◌++◌, length, Option, Some, None, slice_index, refl, sym, ap, ◌∙◌, subst, arith}
+use Rattle.std.proofs.Common.{◌≡◌, ◌≢◌, ◌⊎◌, inl, inr, eqb, ℕ, zero, suc, ◌+◌, ◌<◌, ◌≤◌, Bool, true, false, cond, ltb, min, [], ◌∷◌, ◌++◌, length, Option, Some, None, refl, sym, ap, ◌∙◌, subst, arith}
 use Rattle.std.proofs.lemmas.Bool.{eqb-true, eqb-false, ltb-true, ltb-false}
 use Rattle.std.specs.Prelude.{◌&&◌, ◌||◌}
 use Rattle.protocol_lang.specs.Numbers.{greatest}
 use Rattle.protocol_lang.specs.Meaning.{next_action}
 use Rattle.protocol_lang.specs.declared.meaning.Action.{Action}
 use Rattle.protocol_lang.specs.declared.meaning.Action.TheVariants as actions
-use Rattle.room_spec.specs.Rooms.{RoomSpec, processes}
+use Rattle.room_spec.specs.Rooms.{RoomSpec, is_reduction, processes}
 use Rattle.room_spec.specs.Sizes.{sizes_in}
 use Rattle.safe_agreement.specs.Levels.{has_level, left_level}
 use Rattle.simulator.specs.declared.goal.Goal.{Goal}
 use Rattle.simulator.specs.declared.goal.Goal.TheVariants as goals
 use Rattle.simulator.specs.declared.line.Line.{Line}
-use Rattle.simulator.specs.declared.line.Line.TheVariants.{Rest, Raise, Snap, Show, Enter, Look, Leave, Ask, GetView, Values, Out}
+use Rattle.simulator.specs.declared.line.Line.TheVariants.{Rest, Raise, Snap, Show, Enter, Look, Leave, Ask, GetInput, GetView, Values, Out}
 use Rattle.simulator.specs.declared.turn.Turn.TheVariants.{Useful, Quiet}
-use Rattle.simulator.specs.Minds.{MindOf, goal_at, current_goal, current_round, is_unfinished, round_of, next_process}
-use Rattle.simulator.specs.Turns.{TakenOf, counted, begun, goes_on, ended, scanned, collected, gathered, most_collects, words_in, asked, acted, decided, padded, after_write, opened_at}
+use Rattle.simulator.specs.Minds.{MindOf, goal_at, current_goal, current_input, current_round, is_unfinished, round_of, next_process}
+use Rattle.simulator.specs.Turns.{TakenOf, counted, begun, goes_on, ended, scanned, collected, gathered, most_collects, words_in, asked, asks_in, gets_in, got_input, acted, decided, padded, after_write, opened_at}
 use Rattle.simulator.specs.Moves.{IsOperation, first_move_at, first_move}
+use Rattle.simulator.specs.Ranges.{IsGoal, IsLineIn}
 use Rattle.room_core.specs.Fields.{StepMap, Fields, changed, changed_pair, levels_at, chosen_at, entry_of_steps, is_same_collect, shown_value, with_loaded, with_shown, with_taken, line}
 use Rattle.room_core.specs.Reading.{worded}
 use Rattle.room_core.specs.Rooms.{Configuration, IsShaped, HasLine}
-use Rattle.room_core.specs.Tracks.{StandsFor, AtRest, Tells}
+use Rattle.room_core.specs.Tracks.{StandsFor, AtRest, Tells, stage_of, stage_for}
 use Rattle.room_core.proofs.fields.FieldReplays.{stands_at, line_is}
 use Rattle.room_core.proofs.fields.Maps.{changed_here, changed_else}
 use Rattle.sim_memory.specs.Steps.{word_of}
 use Rattle.sim_memory.proofs.CallerLemmas.{word_below}
 use Rattle.room_core.proofs.fields.Snapshots.{same_row}
-use Rattle.room_core.proofs.fields.Tracks.{stored_round, counted_round, inside_round, past_round, outside, inside}
-use Rattle.room_core.proofs.fields.Lines.{stored_first_at, stored_first, stored_on, taken_first_at, taken_first, taken_on, operation_of, first_place, open_round, StandsAt}
+use Rattle.room_core.proofs.fields.Tracks.{stored_round, counted_round, inside_round, past_round, outside, inside, rest_stage_for, aside_stage_for, here_stage_for}
+use Rattle.room_core.proofs.fields.Lines.{stored_first_at, stored_first, stored_on, taken_first_at, taken_first, taken_on, operation_of, first_goal_in, first_place, open_round, StandsAt}
 use Rattle.room_core.proofs.fields.LineTracks.{each_at_rest}
 use Rattle.room_core.proofs.fields.FieldLines.{IsStoreOf, is_store}
-use Rattle.room_core.proofs.agreements.Stages.{Past, line_progress}
+use Rattle.room_core.proofs.agreements.Stages.{Past, is_unproposed, line_progress}
 
 -- what is simulator i's own in the fields: its mind and its rows
 pub record Own : Type 0 where
@@ -58,12 +59,28 @@ is_reading Values = true
 is_reading (Out decision) = true
 is_reading line = false
 
+-- or it gets the input that was chosen
+abbrev pub is_getting : Line → Bool
+is_getting (GetInput chosen) = true
+is_getting line = false
+
+abbrev pub is_got : Line → Bool
+is_got (GetInput chosen) = true
+is_got (GetView chosen) = true
+is_got line = false
+
+-- the line after a choice is no other
+pub gets_not : (round chosen : ℕ) (line : Line) → is_got line ≡ false → gets_in round chosen ≡ line → ⊥
+gets_not zero chosen line none is = let wrong : true ≡ false = ap is_got is ∙ none in absurd cc
+gets_not (suc round) chosen line none is = let wrong : true ≡ false = ap is_got is ∙ none in absurd cc
+
 -- an open turn, at this line
 pub record IsTurn (spec : RoomSpec) (own : Own) (line : Line) : Type 0 where
   pub stands : own.mind.line ≡ line
   pub left : is_unfinished (current_goal own.mind) ≡ true
   pub process : own.mind.process < processes spec
-  pub first : 1 ≤ current_round own.mind
+  pub goal : IsGoal (sizes_in spec) (current_goal own.mind)
+  pub first : IsLineIn (current_round own.mind) line
   pub last : current_round own.mind ≤ spec.rounds
   pub long : length own.mind.goals ≡ processes spec
 
@@ -71,14 +88,18 @@ pub record IsTurn (spec : RoomSpec) (own : Own) (line : Line) : Type 0 where
 pub record IsAsking (spec : RoomSpec) (own : Own) (asking : MindOf StepMap) : Type 0 where
   pub goals : asking.goals ≡ own.mind.goals
   pub decision : asking.decision ≡ own.mind.decision
+  pub inputs : asking.inputs ≡ own.mind.inputs
   pub past : line_progress own.mind.line ≡ Past
   pub unread : is_reading own.mind.line ≡ false
   pub fresh : asking.word ≡ 0
   pub left : is_unfinished (current_goal asking) ≡ true
   pub count : own.step asking.process ≡ current_round asking
   pub process : asking.process < processes spec
-  pub first : 1 ≤ current_round asking
+  pub goal : IsGoal (sizes_in spec) (current_goal asking)
   pub last : current_round asking ≤ spec.rounds
+  -- it has begun to propose an input of its process, if it is to; and no turn is open on another
+  pub proposed : is_unproposed (goal_at own.mind.goals asking.process) (stage_for own.mind asking.process) ≡ false
+  pub aside : (p : ℕ) → p ≢ asking.process → stage_for own.mind p ≡ AtRest
   pub long : length asking.goals ≡ processes spec
 
 -- a line that works on memory words has done with the last of them
@@ -112,12 +133,13 @@ pub record IsReading (spec : RoomSpec) (fields : Fields) (own : Own) (reading : 
   pub count : own.step own.mind.process ≡ current_round own.mind
   pub process : own.mind.process < processes spec
   pub long : length own.mind.goals ≡ processes spec
+  pub first : 1 ≤ current_round own.mind
   pub last : current_round own.mind ≤ spec.rounds
   pub loads : Loads spec fields own reading
 
 -- what the process does next, by the entries that were gathered
 abbrev pub action_of : RoomSpec → MindOf StepMap → Action
-action_of spec mind = next_action spec.protocol (slice_index spec.inputs mind.process) mind.process (current_round mind) mind.entries
+action_of spec mind = next_action spec.protocol (current_input spec mind) mind.process (current_round mind) mind.entries
 
 -- Why a scan ends: the memory is one word; or the collect is the last, and one more was made.
 abbrev pub ScanEnds : RoomSpec → Fields → Own → ℕ → Type 0
@@ -126,6 +148,8 @@ ScanEnds spec fields own collects = (words_in spec ≡ 1) ⊎ ((words_in spec �
 pub data Effect (spec : RoomSpec) (fields : Fields) (own : Own) : Own → Type 0 where
   stores : (j k value : ℕ) → own.mind.line ≡ Rest → goal_at own.mind.goals j ≡ goals.Write k value → own.step j + 1 ≡ k → j < processes spec → 1 ≤ k → k ≤ spec.rounds
       → Effect spec fields own (record own { mind = (goes_on Raise (begun j (counted own.mind))).mind; value = changed_pair own.value j k value })
+  proposes : (j value : ℕ) → own.mind.line ≡ Rest → goal_at own.mind.goals j ≡ goals.Propose value → own.step j ≡ 0 → own.level j 0 ≡ 0 → j < processes spec → is_reduction spec ≡ true
+      → Effect spec fields own (record own { mind = (goes_on Enter (begun j (counted own.mind))).mind; value = changed_pair own.value j 0 value })
   raises : IsTurn spec own Raise → own.mind.word ≡ 0 → own.mind.collects ≡ 0 → own.step (process_on own) + 1 ≡ round_on own
       → Effect spec fields own (record own { mind = (goes_on Snap (counted own.mind)).mind; step = changed own.step (process_on own) (own.step (process_on own) + 1) })
   collects_word : IsTurn spec own Snap → own.step (process_on own) ≡ round_on own → own.level (process_on own) (round_on own) ≡ 0 → own.mind.word + 1 < words_in spec
@@ -145,9 +169,11 @@ pub data Effect (spec : RoomSpec) (fields : Fields) (own : Own) : Own → Type 0
   leaves : (saw_two : Bool) → IsTurn spec own (Leave saw_two) → own.step (process_on own) ≡ round_on own → own.level (process_on own) (round_on own) ≡ 1
       → Effect spec fields own (record own { mind = (goes_on Ask (counted own.mind)).mind; level = changed_pair own.level (process_on own) (round_on own) (left_level saw_two) })
   asks_in_vain : (asking : MindOf StepMap) → IsAsking spec own asking → chosen_at spec fields asking.process (current_round asking) ≡ None
-      → Effect spec fields own (record own { mind = (ended Quiet (goals.Ask (current_round asking)) asking).mind })
+      → Effect spec fields own (record own { mind = (ended Quiet (asks_in (current_round asking)) asking).mind })
   finds : (asking : MindOf StepMap) (chosen : ℕ) → IsAsking spec own asking → chosen_at spec fields asking.process (current_round asking) ≡ Some chosen
-      → Effect spec fields own (record own { mind = (goes_on (GetView chosen) asking).mind })
+      → Effect spec fields own (record own { mind = (goes_on (gets_in (current_round asking) chosen) asking).mind })
+  gets_input : (chosen : ℕ) → IsTurn spec own (GetInput chosen) → own.step (process_on own) ≡ round_on own → chosen < spec.simulators
+      → Effect spec fields own (record own { mind = (got_input spec (fields.value chosen (process_on own) 0) (counted own.mind)).mind })
   loads_word : (chosen : ℕ) → IsTurn spec own (GetView chosen) → chosen < spec.simulators → own.mind.word + 1 < words_in spec
       → Effect spec fields own (record own { mind = (goes_on (GetView chosen) (record (view_loaded spec fields own chosen) { word = own.mind.word + 1 })).mind })
   gathers : (reading : MindOf StepMap) → IsReading spec fields own reading → length reading.entries < processes spec
@@ -178,7 +204,7 @@ module _ (spec : RoomSpec) (fields : Fields) (i : ℕ) where
   is_turn line is left at =
       let mind = fields.mind i in
       let place = open_round spec mind at.is_mind left in
-      record { stands = is; left = left; process = at.is_mind.process; first = place.0; last = place.1; long = at.is_mind.goals }
+      record { stands = is; left = left; process = at.is_mind.process; goal = at.is_mind.rounds mind.process at.is_mind.process; first = at.round; last = place.1; long = at.is_mind.goals }
 
   asked_effect : (asking : MindOf StepMap) (chosen : Option ℕ) → IsAsking spec (own_of fields i) asking → chosen_at spec fields asking.process (current_round asking) ≡ chosen
       → Effect spec fields (own_of fields i) (own_after fields i (asked chosen asking).mind)
@@ -201,11 +227,12 @@ module _ (spec : RoomSpec) (fields : Fields) (i : ℕ) where
   first_effect (goals.Write k value) j number is rest at moves =
       let mind = fields.mind i in
       let place = first_place spec mind j (goals.Write k value) at.is_mind is refl in
+      let range = first_goal_in spec mind j (goals.Write k value) at.is_mind is refl in
       let tells = each_at_rest spec.rounds mind.process mind.goals (fields.step i) (fields.level i) at.others at.own j in
       let count : fields.step i j + 1 ≡ k = (subst (λ (g : Goal). Tells spec.rounds g AtRest (fields.step i j) (fields.level i j)) is tells).counts in
       subst (λ (mind' : MindOf StepMap). Effect spec fields (own_of fields i) (own_after (stored_first_at (goals.Write k value) fields i j) i mind')) (sym (ap (λ (g : Goal). (opened_at g None (begun j (counted mind))).mind) is))
       (subst (λ (row : ℕ → ℕ → ℕ). Effect spec fields (own_of fields i) (record (own_of fields i) { mind = (goes_on Raise (begun j (counted mind))).mind; value = row })) (sym (changed_here fields.value i (changed_pair (fields.value i) j k value) i refl))
-      (stores j k value rest is count place.0 place.1.0 place.1.1))
+      (stores j k value rest is count place.0 range.0 range.1))
   first_effect (goals.Ask k) j number is rest at moves =
       let mind = fields.mind i in
       let place = first_place spec mind j (goals.Ask k) at.is_mind is refl in
@@ -216,14 +243,49 @@ module _ (spec : RoomSpec) (fields : Fields) (i : ℕ) where
       (asked_effect (begun j (counted mind)) (chosen_at spec fields j k) (record {
         goals = refl;
         decision = refl;
+        inputs = refl;
         past = ap line_progress rest;
         unread = ap is_reading rest;
         fresh = let w = at.word in omega arith;
         left = ap is_unfinished is;
         count = count ∙ sym round;
         process = place.0;
-        first = let b = place.1.0 in omega arith;
+        goal = at.is_mind.rounds j place.0;
         last = let b = place.1.1 in omega arith;
+        proposed = ap (λ (g : Goal). is_unproposed g (stage_for mind j)) is ∙ ap (is_unproposed (goals.Ask k)) (rest_stage_for mind j rest);
+        aside = λ p other. rest_stage_for mind p rest;
+        long = at.is_mind.goals;
+      }) (ap (λ (r : ℕ). chosen_at spec fields j r) round))
+  first_effect (goals.Propose value) j number is rest at moves =
+      let mind = fields.mind i in
+      let place = first_place spec mind j (goals.Propose value) at.is_mind is refl in
+      let tells = each_at_rest spec.rounds mind.process mind.goals (fields.step i) (fields.level i) at.others at.own j in
+      let told : Tells spec.rounds (goals.Propose value) AtRest (fields.step i j) (fields.level i j) = subst (λ (g : Goal). Tells spec.rounds g AtRest (fields.step i j) (fields.level i j)) is tells in
+      let none : fields.step i j ≡ 0 = told.counts in
+      subst (λ (mind' : MindOf StepMap). Effect spec fields (own_of fields i) (own_after (stored_first_at (goals.Propose value) fields i j) i mind')) (sym (ap (λ (g : Goal). (opened_at g None (begun j (counted mind))).mind) is))
+      (subst (λ (row : ℕ → ℕ → ℕ). Effect spec fields (own_of fields i) (record (own_of fields i) { mind = (goes_on Enter (begun j (counted mind))).mind; value = row })) (sym (changed_here fields.value i (changed_pair (fields.value i) j 0 value) i refl))
+      (proposes j value rest is none (told.levels.0 0 (omega (arith, none))) place.0 (first_goal_in spec mind j (goals.Propose value) at.is_mind is refl)))
+  first_effect goals.AskInput j number is rest at moves =
+      let mind = fields.mind i in
+      let place = first_place spec mind j goals.AskInput at.is_mind is refl in
+      let tells = each_at_rest spec.rounds mind.process mind.goals (fields.step i) (fields.level i) at.others at.own j in
+      let count : fields.step i j ≡ 0 = (subst (λ (g : Goal). Tells spec.rounds g AtRest (fields.step i j) (fields.level i j)) is tells).counts in
+      let round : round_of (goal_at mind.goals j) ≡ 0 = ap round_of is in
+      subst (λ (mind' : MindOf StepMap). Effect spec fields (own_of fields i) (own_after fields i mind')) (sym (ap (λ (g : Goal). (opened_at g (chosen_at spec fields j 0) (begun j (counted mind))).mind) is))
+      (asked_effect (begun j (counted mind)) (chosen_at spec fields j 0) (record {
+        goals = refl;
+        decision = refl;
+        inputs = refl;
+        past = ap line_progress rest;
+        unread = ap is_reading rest;
+        fresh = let w = at.word in omega arith;
+        left = ap is_unfinished is;
+        count = count ∙ sym round;
+        process = place.0;
+        goal = at.is_mind.rounds j place.0;
+        last = omega (arith, round);
+        proposed = ap (λ (g : Goal). is_unproposed g (stage_for mind j)) is ∙ ap (is_unproposed goals.AskInput) (rest_stage_for mind j rest);
+        aside = λ p other. rest_stage_for mind p rest;
         long = at.is_mind.goals;
       }) (ap (λ (r : ℕ). chosen_at spec fields j r) round))
   first_effect goals.Done j number is rest at moves = absurd moves
@@ -238,8 +300,8 @@ module _ (spec : RoomSpec) (fields : Fields) (i : ℕ) where
 
   reads_at : (line : Line) (reading : MindOf StepMap) → (fields.mind i).line ≡ line → StandsAt line spec fields i (fields.mind i) → line_progress line ≡ Past → is_reading line ≡ true
       → reading.goals ≡ (fields.mind i).goals → reading.process ≡ (fields.mind i).process → is_unfinished (current_goal (fields.mind i)) ≡ true → fields.step i (fields.mind i).process ≡ current_round (fields.mind i)
-      → Loads spec fields (own_of fields i) reading → IsReading spec fields (own_of fields i) reading
-  reads_at line reading is at past reads same same' left count loads = record {
+      → 1 ≤ current_round (fields.mind i) → Loads spec fields (own_of fields i) reading → IsReading spec fields (own_of fields i) reading
+  reads_at line reading is at past reads same same' left count first loads = record {
     goals = same;
     same = same';
     past = ap line_progress is ∙ past;
@@ -248,6 +310,7 @@ module _ (spec : RoomSpec) (fields : Fields) (i : ℕ) where
     count = count;
     process = at.is_mind.process;
     long = at.is_mind.goals;
+    first = first;
     last = (open_round spec (fields.mind i) at.is_mind left).1;
     loads = loads;
   }
@@ -312,16 +375,22 @@ module _ (spec : RoomSpec) (fields : Fields) (i : ℕ) where
       asked_effect (counted mind) (chosen_at spec fields mind.process (current_round mind)) (record {
         goals = refl;
         decision = refl;
+        inputs = refl;
         past = ap line_progress is;
         unread = ap is_reading is;
         fresh = let w = at.word in omega arith;
         left = turn.left;
         count = past_round spec.rounds (current_goal mind) (fields.step i mind.process) at.own.counts;
         process = turn.process;
-        first = turn.first;
+        goal = turn.goal;
         last = turn.last;
+        proposed = ap (is_unproposed (current_goal mind)) (here_stage_for mind mind.process refl ∙ ap stage_of is);
+        aside = λ p other. aside_stage_for mind p other;
         long = turn.long;
       }) refl
+  effect_on (GetInput chosen) is at =
+      let mind = fields.mind i in
+      gets_input chosen (is_turn (GetInput chosen) is at.open_at.0 at) (past_round spec.rounds (current_goal mind) (fields.step i mind.process) at.own.counts) at.open_at.1
   effect_on (GetView chosen) is at =
       let mind = fields.mind i in
       let into = with_loaded spec (fields.view chosen mind.process (current_round mind)) (counted mind) in
@@ -332,14 +401,14 @@ module _ (spec : RoomSpec) (fields : Fields) (i : ℕ) where
       (λ next. loads_word chosen turn at.open_at.1 (ltb-true _ _ next))
       (λ stop.
       gathered_effect reading (ltb (length reading.entries) (processes spec)) (action_of spec reading)
-      (reads_at (GetView chosen) reading is at refl refl refl refl at.open_at.0 count (loads_view chosen turn at.open_at.1 (last_word mind.word (words_in spec) at.word stop) (λ a p less less'. word_below (sizes_in spec) a p at.is_mind.limits.shape less less'))) refl refl)
+      (reads_at (GetView chosen) reading is at refl refl refl refl at.open_at.0 count at.round (loads_view chosen turn at.open_at.1 (last_word mind.word (words_in spec) at.word stop) (λ a p less less'. word_below (sizes_in spec) a p at.is_mind.limits.shape less less'))) refl refl)
   effect_on Values is at =
       let mind = fields.mind i in
       let more = mind.entries ++ Some (min (shown_value spec fields mind.snapshot (length mind.entries)) greatest) ∷ [] in
       let reading : MindOf StepMap = record (counted mind) { entries = padded (entry_of_steps spec mind.snapshot) (processes spec) more } in
       let count = past_round spec.rounds (current_goal mind) (fields.step i mind.process) at.own.counts in
       gathered_effect reading (ltb (length reading.entries) (processes spec)) (action_of spec reading)
-      (reads_at Values reading is at refl refl refl refl at.open_at.0 count (loads_value (is_turn Values is at.open_at.0 at) at.open_at.1 (subst (λ (row : ℕ). 1 ≤ row) (same_row spec mind.snapshot (length mind.entries) at.is_mind.limits at.snapshot at.open_at.1) at.open_at.2))) refl refl
+      (reads_at Values reading is at refl refl refl refl at.open_at.0 count at.round (loads_value (is_turn Values is at.open_at.0 at) at.open_at.1 (subst (λ (row : ℕ). 1 ≤ row) (same_row spec mind.snapshot (length mind.entries) at.is_mind.limits at.snapshot at.open_at.1) at.open_at.2))) refl refl
   effect_on (Out decision) is at =
       let mind = fields.mind i in
       let j = mind.process in

@@ -11,7 +11,7 @@ use Rattle.room_spec.specs.Sizes.{sizes_in}
 use Rattle.simulator.specs.declared.goal.Goal.{Goal}
 use Rattle.simulator.specs.declared.goal.Goal.TheVariants as goals
 use Rattle.simulator.specs.declared.line.Line.{Line}
-use Rattle.simulator.specs.declared.line.Line.TheVariants.{Rest, Raise, Snap, Show, Enter, Look, Leave, Ask, GetView, Values, Out}
+use Rattle.simulator.specs.declared.line.Line.TheVariants.{Rest, Raise, Snap, Show, Enter, Look, Leave, Ask, GetInput, GetView, Values, Out}
 use Rattle.simulator.specs.declared.sweep.Ready.{Ready}
 use Rattle.simulator.specs.declared.sweep.Ready.TheVariants as ready
 use Rattle.simulator.specs.declared.turn.Turn.{Turn}
@@ -52,6 +52,8 @@ first_line_quiet : (goal : Goal) (spec : RoomSpec) (fields : Fields) (quiet : �
     → first_line_at goal spec (with_quiet fields quiet) i j mind ≡ with_quiet (first_line_at goal spec fields i j mind) (first_line_at goal spec (with_quiet fields quiet) i j mind).quiet
 first_line_quiet (goals.Write k value) spec fields quiet i j mind = refl
 first_line_quiet (goals.Ask k) spec fields quiet i j mind = refl
+first_line_quiet (goals.Propose value) spec fields quiet i j mind = refl
+first_line_quiet goals.AskInput spec fields quiet i j mind = refl
 first_line_quiet goals.Done spec fields quiet i j mind = refl
 first_line_quiet goals.Spent spec fields quiet i j mind = refl
 
@@ -70,6 +72,7 @@ line_quiet_on Enter spec fields quiet i j k mind = refl
 line_quiet_on Look spec fields quiet i j k mind = refl
 line_quiet_on (Leave saw_two) spec fields quiet i j k mind = refl
 line_quiet_on Ask spec fields quiet i j k mind = refl
+line_quiet_on (GetInput chosen) spec fields quiet i j k mind = refl
 line_quiet_on (GetView chosen) spec fields quiet i j k mind = refl
 line_quiet_on Values spec fields quiet i j k mind = refl
 line_quiet_on (Out decision) spec fields quiet i j k mind = refl

@@ -1,5 +1,5 @@
 -- A line keeps the numbers of the fields in range, and changes nothing of the other simulators.
-use Rattle.std.proofs.Common.{◌≡◌, ◌≢◌, ℕ, ◌+◌, ◌≤◌, Bool, true, false, cond, ltb, List, [], ◌∷◌, ◌++◌, min, length, Option, Some, None, slice_index, refl, arith}
+use Rattle.std.proofs.Common.{◌≡◌, ◌≢◌, ℕ, ◌+◌, ◌≤◌, Bool, true, false, cond, ltb, List, [], ◌∷◌, ◌++◌, min, length, Option, Some, None, refl, arith}
 use Rattle.protocol_lang.specs.Numbers.{greatest}
 use Rattle.protocol_lang.specs.Meaning.{next_action}
 use Rattle.protocol_lang.specs.declared.meaning.Action.{Action}
@@ -11,13 +11,13 @@ use Rattle.sim_memory.specs.Steps.{AreWithin}
 use Rattle.simulator.specs.declared.goal.Goal.{Goal}
 use Rattle.simulator.specs.declared.goal.Goal.TheVariants as goals
 use Rattle.simulator.specs.declared.line.Line.{Line}
-use Rattle.simulator.specs.declared.line.Line.TheVariants.{Rest, Raise, Snap, Show, Enter, Look, Leave, Ask, GetView, Values, Out}
-use Rattle.simulator.specs.Minds.{MindOf, goal_at, current_goal, current_round, next_process}
+use Rattle.simulator.specs.declared.line.Line.TheVariants.{Rest, Raise, Snap, Show, Enter, Look, Leave, Ask, GetInput, GetView, Values, Out}
+use Rattle.simulator.specs.Minds.{MindOf, goal_at, current_goal, current_input, current_round, next_process}
 use Rattle.simulator.specs.Turns.{counted, begun, TakenOf, goes_on, asked, acted, padded, gathered, opened_at}
 use Rattle.room_core.specs.Fields.{StepMap, Fields, changed, changed_pair, changed_triple, chosen_at, entry_of_steps, shown_value, is_same_collect, with_loaded, with_shown}
 use Rattle.room_core.specs.Tracks.{AreInRange}
 use Rattle.room_core.proofs.fields.Maps.{changed_else, each_pair, each_triple}
-use Rattle.room_core.proofs.fields.Tracks.{raised_below, outside}
+use Rattle.room_core.proofs.fields.Tracks.{raised_below, outside, round_most}
 use Rattle.room_core.proofs.fields.Snapshots.{part_within}
 use Rattle.room_core.proofs.fields.Wording.{got_view_by, showed_by, snapped_by}
 use Rattle.room_core.proofs.fields.Lines.{stored_first_at, stored_first, stored_on, taken_first_at, taken_first, taken_on, StandsAt}
@@ -37,9 +37,14 @@ pub record IsStoreOf (i : ℕ) (fields after : Fields) : Type 0 where
 no_store : (fields : Fields) (i : ℕ) → IsStoreOf i fields fields
 no_store fields i = record { mind = refl; quiet = refl; crashed = refl; step = λ a other. refl; level = λ a other. refl; view = λ a other. refl; value = λ a other. refl; out = λ a other. refl }
 
+value_store : (fields : Fields) (i j k value : ℕ) → IsStoreOf i fields (record fields { value = changed_triple fields.value i j k value })
+value_store fields i j k value = record { mind = refl; quiet = refl; crashed = refl; step = λ a other. refl; level = λ a other. refl; view = λ a other. refl; value = λ a other. changed_else fields.value i (changed_pair (fields.value i) j k value) a other; out = λ a other. refl }
+
 first_store : (goal : Goal) (fields : Fields) (i j : ℕ) → IsStoreOf i fields (stored_first_at goal fields i j)
-first_store (goals.Write k value) fields i j = record { mind = refl; quiet = refl; crashed = refl; step = λ a other. refl; level = λ a other. refl; view = λ a other. refl; value = λ a other. changed_else fields.value i (changed_pair (fields.value i) j k value) a other; out = λ a other. refl }
+first_store (goals.Write k value) fields i j = value_store fields i j k value
 first_store (goals.Ask k) fields i j = no_store fields i
+first_store (goals.Propose value) fields i j = value_store fields i j 0 value
+first_store goals.AskInput fields i j = no_store fields i
 first_store goals.Done fields i j = no_store fields i
 first_store goals.Spent fields i j = no_store fields i
 
@@ -59,6 +64,7 @@ is_store Enter spec fields i j k mind = level_store fields i j k (fields.level i
 is_store Look spec fields i j k mind = no_store fields i
 is_store (Leave saw_two) spec fields i j k mind = level_store fields i j k (left_level saw_two)
 is_store Ask spec fields i j k mind = no_store fields i
+is_store (GetInput chosen) spec fields i j k mind = no_store fields i
 is_store (GetView chosen) spec fields i j k mind = no_store fields i
 is_store Values spec fields i j k mind = no_store fields i
 is_store (Out decision) spec fields i j k mind = record { mind = refl; quiet = refl; crashed = refl; step = λ a other. refl; level = λ a other. refl; view = λ a other. refl; value = λ a other. refl; out = λ a other. changed_else fields.out i (changed (fields.out i) j (decision + 1)) a other }
@@ -69,6 +75,8 @@ module _ (spec : RoomSpec) (fields : Fields) (range : AreInRange spec fields) wh
   first_in_range : (goal : Goal) (i j : ℕ) → AreInRange spec (stored_first_at goal fields i j)
   first_in_range (goals.Write k value) i j = record { step = range.step; level = range.level; view = range.view }
   first_in_range (goals.Ask k) i j = range
+  first_in_range (goals.Propose value) i j = record { step = range.step; level = range.level; view = range.view }
+  first_in_range goals.AskInput i j = range
   first_in_range goals.Done i j = range
   first_in_range goals.Spent i j = range
 
@@ -86,7 +94,7 @@ left_low false = omega arith
 pub in_range_line : (line : Line) (spec : RoomSpec) (fields : Fields) (i : ℕ) (mind : MindOf StepMap) → StandsAt line spec fields i mind → AreInRange spec (stored_on line spec fields i mind.process (current_round mind) (counted mind))
 in_range_line Rest spec fields i mind at = next_in_range spec fields at.range (next_process mind.goals mind.process) i (counted mind)
 in_range_line Raise spec fields i mind at =
-    let room = raised_below (current_goal mind) spec.rounds (fields.step i mind.process) (fields.level i mind.process) (at.is_mind.rounds mind.process at.is_mind.process) at.own in
+    let room = raised_below (current_goal mind) spec.rounds (fields.step i mind.process) (fields.level i mind.process) (round_most (sizes_in spec) (current_goal mind) (at.is_mind.rounds mind.process at.is_mind.process)) at.own in
     record { step = each_pair (λ (x : ℕ). x ≤ spec.rounds) fields.step i mind.process (fields.step i mind.process + 1) (omega arith) at.range.step; level = at.range.level; view = at.range.view }
 in_range_line Snap spec fields i mind at = at.range
 in_range_line Show spec fields i mind at =
@@ -98,6 +106,7 @@ in_range_line Look spec fields i mind at = at.range
 in_range_line (Leave saw_two) spec fields i mind at =
     level_in_range spec fields at.range i mind.process (current_round mind) (left_level saw_two) (left_low saw_two)
 in_range_line Ask spec fields i mind at = at.range
+in_range_line (GetInput chosen) spec fields i mind at = at.range
 in_range_line (GetView chosen) spec fields i mind at = at.range
 in_range_line Values spec fields i mind at = at.range
 in_range_line (Out decision) spec fields i mind at = record { step = at.range.step; level = at.range.level; view = at.range.view }
@@ -115,6 +124,8 @@ module _ (spec : RoomSpec) (mind : MindOf StepMap) (within : AreBothWithin spec 
   opened_at_within : (goal : Goal) (chosen : Option ℕ) → AreBothWithin spec (opened_at goal chosen mind).mind
   opened_at_within (goals.Write k value) chosen = within
   opened_at_within (goals.Ask k) chosen = asked_within chosen
+  opened_at_within (goals.Propose value) chosen = within
+  opened_at_within goals.AskInput chosen = asked_within chosen
   opened_at_within goals.Done chosen = within
   opened_at_within goals.Spent chosen = within
 
@@ -129,11 +140,13 @@ module _ (spec : RoomSpec) (mind : MindOf StepMap) (within : AreBothWithin spec 
 gathered_within : (spec : RoomSpec) (row : ℕ → ℕ) (entries : List (Option ℕ)) (mind : MindOf StepMap) → AreBothWithin spec mind → AreBothWithin spec (gathered row spec entries mind).mind
 gathered_within spec row entries mind within =
     let all = padded row (processes spec) entries in
-    all_within spec (record mind { entries = all }) within (ltb (length all) (processes spec)) (next_action spec.protocol (slice_index spec.inputs mind.process) mind.process (current_round mind) all)
+    all_within spec (record mind { entries = all }) within (ltb (length all) (processes spec)) (next_action spec.protocol (current_input spec mind) mind.process (current_round mind) all)
 
 first_within : (goal : Goal) (spec : RoomSpec) (fields : Fields) (j : ℕ) (mind : MindOf StepMap) → AreBothWithin spec mind → AreBothWithin spec (taken_first_at goal spec fields j mind).mind
 first_within (goals.Write k value) spec fields j mind within = opened_at_within spec (begun j mind) within (goal_at mind.goals j) None
 first_within (goals.Ask k) spec fields j mind within = opened_at_within spec (begun j mind) within (goal_at mind.goals j) (chosen_at spec fields j k)
+first_within (goals.Propose value) spec fields j mind within = opened_at_within spec (begun j mind) within (goal_at mind.goals j) None
+first_within goals.AskInput spec fields j mind within = opened_at_within spec (begun j mind) within (goal_at mind.goals j) (chosen_at spec fields j 0)
 first_within goals.Done spec fields j mind within = within
 first_within goals.Spent spec fields j mind within = within
 
@@ -153,6 +166,7 @@ snapshot_line Enter spec fields i mind at = (at.before, at.snapshot)
 snapshot_line Look spec fields i mind at = (at.before, at.snapshot)
 snapshot_line (Leave saw_two) spec fields i mind at = (at.before, at.snapshot)
 snapshot_line Ask spec fields i mind at = asked_within spec (counted mind) (at.before, at.snapshot) (chosen_at spec fields mind.process (current_round mind))
+snapshot_line (GetInput chosen) spec fields i mind at = (at.before, at.snapshot)
 snapshot_line (GetView chosen) spec fields i mind at =
     let view = fields.view chosen mind.process (current_round mind) in
     let into = with_loaded spec view (counted mind) in

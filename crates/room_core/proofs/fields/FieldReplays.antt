@@ -1,11 +1,11 @@
 -- The words and minds of a replay stand for the fields of the same replay.
-use Rattle.std.proofs.Common.{◌≡◌, ◌≢◌, ℕ, zero, suc, ◌<◌, Bool, true, false, List, [], ◌∷◌, length, get_or, set, map, refl, sym, ap, ◌∙◌, subst, arith}
+use Rattle.std.proofs.Common.{◌≡◌, ◌≢◌, ℕ, zero, suc, ◌<◌, Bool, true, false, cond, List, [], ◌∷◌, length, get_or, set, map, replicate, slice_index, refl, sym, ap, ◌∙◌, subst, arith}
 use Rattle.std.proofs.lemmas.List.{get_or-set_same, get_or-set_other, get_or-replicate}
 use Rattle.std.proofs.lemmas.List.FromFn.{get_or-map-range_with_len, length-map-range_with_len}
 use Rattle.std.specs.List.{range_with_len}
 use mathlib.Core.Logic.{dite}
 use native.Mathlib.Decide.{ℕ_discrete}
-use Rattle.room_spec.specs.Rooms.{RoomSpec, IsWithinLimits, processes}
+use Rattle.room_spec.specs.Rooms.{RoomSpec, IsWithinLimits, is_reduction, processes}
 use Rattle.room_spec.specs.Sizes.{Sizes, sizes_in}
 use Rattle.level_cells.proofs.CallerLemmas.{of_zeros}
 use Rattle.view_table.specs.declared.place.Place.{Place}
@@ -14,7 +14,8 @@ use Rattle.view_table.proofs.CallerLemmas.{zeros}
 use Rattle.sim_memory.specs.Steps.{AreWithin, memory_of, memory_word}
 use Rattle.sim_memory.proofs.CallerLemmas.{memory_at, word_zero}
 use Rattle.std.proofs.lemmas.Grind.{same_number_lists}
-use Rattle.simulator.specs.Minds.{MindOf, MindState, goal_at, current_round, first_goal, no_words, opening_mind, opening_mind_of}
+use Rattle.simulator.specs.Minds.{MindOf, MindState, goal_at, current_round, first_goal, first_goals, no_words, opening_mind, opening_mind_of}
+use Rattle.simulator.specs.declared.goal.Goal.TheVariants as goals
 use Rattle.simulator.specs.Turns.{TakenOf, counted}
 use Rattle.simulator.specs.Moves.{IsOperation, move_of, taken, words_after, answer_of}
 use Rattle.simulator.specs.Ranges.{IsMind}
@@ -78,6 +79,7 @@ stands_at room fields i shape for may =
       word = is_mind.word;
       collects = is_mind.collects;
       open_at = is_mind.at;
+      round = is_mind.round;
       moves = subst (λ (one : MindState). IsOperation (move_of room.spec one)) same may.moving;
       others = beside room.spec.rounds mind (fields.step i) (fields.level i) (for.tracks.told i);
       own = at_sweep room.spec.rounds mind (fields.step i) (fields.level i) (for.tracks.told i);
@@ -194,6 +196,15 @@ opening_tells spec [] p = record { counts = tt; levels = (λ k after. refl, λ k
 opening_tells spec (q ∷ numbers) zero = record { counts = refl; levels = (λ k after. refl, λ k before one. absurd (omega (arith, one))) }
 opening_tells spec (q ∷ numbers) (suc p) = opening_tells spec numbers p
 
+proposals_tell : (rounds value n p : ℕ) → Tells rounds (goal_at (replicate n (goals.Propose value)) p) AtRest 0 (λ k. 0)
+proposals_tell rounds value zero p = record { counts = tt; levels = (λ k after. refl, λ k before one. absurd (omega (arith, one))) }
+proposals_tell rounds value (suc n) zero = record { counts = refl; levels = (λ k after. refl, λ k before one. absurd (omega (arith, one))) }
+proposals_tell rounds value (suc n) (suc p) = proposals_tell rounds value n p
+
+opening_goals_tell : (spec : RoomSpec) (b : Bool) (value p : ℕ) → Tells spec.rounds (goal_at (cond b (replicate (processes spec) (goals.Propose value)) (first_goals spec)) p) AtRest 0 (λ k. 0)
+opening_goals_tell spec true value p = proposals_tell spec.rounds value (processes spec) p
+opening_goals_tell spec false value p = opening_tells spec (range_with_len 0 (processes spec)) p
+
 pub opening_stands : (spec : RoomSpec) → StandsFor (opening spec) (opening_fields spec)
 opening_stands spec =
     stand_by (opening spec) (opening_fields spec) (λ place range. zeros (sizes_in spec) place range ∙ sym (opening_words spec place))
@@ -202,7 +213,7 @@ opening_stands spec =
     ∙ ap (λ (words : List ℕ). opening_mind_of words spec i) (sym (zero_words (sizes_in spec))))
     (λ i below. get_or-replicate spec.simulators i false false below)
     (record {
-      told = λ i. told_at_rest spec.rounds (opening_mind_of no_steps spec i) (λ p. 0) (λ p k. 0) refl (λ p. opening_tells spec (range_with_len 0 (processes spec)) p);
+      told = λ i. told_at_rest spec.rounds (opening_mind_of no_steps spec i) (λ p. 0) (λ p k. 0) refl (λ p. opening_goals_tell spec (is_reduction spec) (slice_index spec.own i) p);
       range = record { step = λ i p. omega arith; level = λ i j k. omega arith; view = λ i j k a p _ _. omega arith };
       before = λ i a p _ _. omega arith;
       snapshot = λ i a p _ _. omega arith;

@@ -1,5 +1,5 @@
 -- With what its word answers, a mind becomes the mind that the line makes.
-use Rattle.std.proofs.Common.{◌≡◌, ℕ, ◌+◌, ◌<◌, ◌≤◌, Bool, true, false, cond, ltb, min, List, [], ◌∷◌, ◌++◌, length, Option, Some, None, set, refl, sym, ap, ◌∙◌, arith}
+use Rattle.std.proofs.Common.{◌≡◌, ℕ, ◌+◌, ◌<◌, ◌≤◌, Bool, true, false, cond, ltb, min, List, [], ◌∷◌, ◌++◌, length, Option, Some, None, set, refl, sym, ap, ◌∙◌, subst, arith}
 use Rattle.std.specs.Prelude.{slice_index}
 use Rattle.std.proofs.lemmas.List.{length-append}
 use Rattle.protocol_lang.specs.Numbers.{greatest}
@@ -11,15 +11,16 @@ use Rattle.level_cells.specs.Packing.{packed}
 use Rattle.safe_agreement.specs.Levels.{has_level}
 use Rattle.sim_memory.specs.Steps.{AreWithin, memory_of, memory_word}
 use Rattle.sim_memory.proofs.CallerLemmas.{part_memory, merged_below, some_holder, holder_is}
-use Rattle.view_table.specs.Places.{IsProcess, IsRound}
+use Rattle.view_table.specs.Places.{IsProcess, IsAgreementRound}
+use Rattle.view_table.proofs.CallerLemmas.{agreement_round}
 use Rattle.view_table.specs.declared.place.Place.TheVariants as places
 use Rattle.simulator.specs.declared.goal.Goal.{Goal}
 use Rattle.simulator.specs.declared.goal.Goal.TheVariants as goals
 use Rattle.simulator.specs.declared.line.Line.{Line}
-use Rattle.simulator.specs.declared.line.Line.TheVariants.{Rest, Raise, Snap, Show, Enter, Look, Leave, Ask, GetView, Values, Out}
+use Rattle.simulator.specs.declared.line.Line.TheVariants.{Rest, Raise, Snap, Show, Enter, Look, Leave, Ask, GetInput, GetView, Values, Out}
 use Rattle.simulator.specs.declared.operation.Move.TheVariants.{OutOfTurns}
 use Rattle.simulator.specs.Minds.{MindOf, MindState, goal_at, current_round, next_process}
-use Rattle.simulator.specs.Turns.{counted, begun, goes_on, snapped, asked, got_view, got_value, opened_at, opened}
+use Rattle.simulator.specs.Turns.{counted, begun, goes_on, snapped, asked, got_input, got_view, got_value, opened_at, opened}
 use Rattle.simulator.specs.Moves.{IsOperation, index_in, entry_in, holder_in, first_move_at, first_move, move_at, chosen_in, taken_at, answer_of, is_again, loaded}
 use Rattle.simulator.specs.Ranges.{IsMind}
 use Rattle.room_core.specs.Fields.{StepMap, Fields, chosen_at, entry_of_steps, holder_of_steps, is_same_collect, shown_value, with_loaded}
@@ -28,7 +29,7 @@ use Rattle.room_core.specs.Tracks.{AreInRange}
 use Rattle.room_core.proofs.fields.Snapshots.{part_within, same_collects, same_row, same_holder, same_levels, same_chosen}
 use Rattle.room_core.proofs.fields.Wording.{worded_taken, asked_worded, opened_worded, gathered_worded, got_view_worded, showed_worded, snapped_worded}
 use Rattle.room_core.proofs.fields.Holding.{Hold}
-use Rattle.room_core.proofs.fields.Lines.{taken_first_at, taken_first, taken_on, StandsAt, open_round, first_place}
+use Rattle.room_core.proofs.fields.Lines.{taken_first_at, taken_first, taken_on, StandsAt, open_round, snapshot_round, first_place}
 
 -- ---- the first line of a turn
 
@@ -36,10 +37,21 @@ use Rattle.room_core.proofs.fields.Lines.{taken_first_at, taken_first, taken_on,
 opened_any : (goal : Goal) (k value : ℕ) (chosen other : Option ℕ) (mind : MindOf StepMap) → goal ≡ goals.Write k value → opened_at goal chosen mind ≡ opened_at goal other mind
 opened_any (goals.Write round value') k value chosen other mind is = refl
 opened_any (goals.Ask round) k value chosen other mind is = absurd cc
+opened_any (goals.Propose value') k value chosen other mind is = absurd cc
+opened_any goals.AskInput k value chosen other mind is = absurd cc
 opened_any goals.Done k value chosen other mind is = absurd cc
 opened_any goals.Spent k value chosen other mind is = absurd cc
 
-chosen_at_place : (spec : RoomSpec) (fields : Fields) (words : List ℕ) (j k : ℕ) → Hold (sizes_in spec) words fields → AreInRange spec fields → IsProcess (sizes_in spec) j → IsRound (sizes_in spec) k
+-- nor in a turn on a proposed input
+proposed_any : (goal : Goal) (value : ℕ) (chosen other : Option ℕ) (mind : MindOf StepMap) → goal ≡ goals.Propose value → opened_at goal chosen mind ≡ opened_at goal other mind
+proposed_any (goals.Write round value') value chosen other mind is = absurd cc
+proposed_any (goals.Ask round) value chosen other mind is = absurd cc
+proposed_any (goals.Propose value') value chosen other mind is = refl
+proposed_any goals.AskInput value chosen other mind is = absurd cc
+proposed_any goals.Done value chosen other mind is = absurd cc
+proposed_any goals.Spent value chosen other mind is = absurd cc
+
+chosen_at_place : (spec : RoomSpec) (fields : Fields) (words : List ℕ) (j k : ℕ) → Hold (sizes_in spec) words fields → AreInRange spec fields → IsProcess (sizes_in spec) j → IsAgreementRound (sizes_in spec) k
     → chosen_in spec (slice_index words (index_in spec (places.Levels j k))) ≡ chosen_at spec fields j k
 chosen_at_place spec fields words j k held range process round = same_chosen spec fields j k (slice_index words (index_in spec (places.Levels j k))) (λ i. range.level i j k) (held (places.Levels j k) (process, round))
 
@@ -52,6 +64,11 @@ module _ (spec : RoomSpec) (fields : Fields) (words : List ℕ) (mind : MindOf S
   first_answer (goals.Ask k) j true is moves =
       let place = first_place spec mind j (goals.Ask k) is_mind is refl in
       ap (λ (chosen : Option ℕ). opened (Some j) chosen (counted (worded (sizes_in spec) mind))) (chosen_at_place spec fields words j k held range place.0 place.1) ∙ opened_worded (sizes_in spec) spec (Some j) (chosen_at spec fields j k) (counted mind)
+  first_answer (goals.Propose value) j true is moves =
+      opened_worded (sizes_in spec) spec (Some j) (chosen_in spec value) (counted mind) ∙ ap (worded_taken (sizes_in spec)) (proposed_any (goal_at mind.goals j) value (chosen_in spec value) None (begun j (counted mind)) is)
+  first_answer goals.AskInput j true is moves =
+      let place = first_place spec mind j goals.AskInput is_mind is refl in
+      ap (λ (chosen : Option ℕ). opened (Some j) chosen (counted (worded (sizes_in spec) mind))) (chosen_at_place spec fields words j 0 held range place.0 place.1) ∙ opened_worded (sizes_in spec) spec (Some j) (chosen_at spec fields j 0) (counted mind)
   first_answer goals.Done j true is moves = absurd moves
   first_answer goals.Spent j true is moves = absurd moves
 
@@ -83,7 +100,7 @@ value_at_place spec fields words steps p limits within held below shown =
     let some : 1 ≤ entry_of_steps spec steps p = omega arith in
     ap (λ (r : ℕ). slice_index words (index_in spec (places.Value (holder_in spec (memory_of (sizes_in spec) steps) p) p r))) row
     ∙ ap (λ (h : ℕ). slice_index words (index_in spec (places.Value h p (entry_of_steps spec steps p)))) holder
-    ∙ held (places.Value (holder_of_steps spec steps p) p (entry_of_steps spec steps p)) (holder_below spec steps p limits, below, (some, most))
+    ∙ held (places.Value (holder_of_steps spec steps p) p (entry_of_steps spec steps p)) (holder_below spec steps p limits, below, agreement_round (sizes_in spec) (entry_of_steps spec steps p) (some, most))
 
 length_with_one : (entries : List (Option ℕ)) (value : Option ℕ) → length (entries ++ value ∷ []) ≡ length entries + 1
 length_with_one entries value = let one : List (Option ℕ) = value ∷ [] in length-append entries one
@@ -125,12 +142,15 @@ same_taken Ask spec fields i words mind at held =
     let k = current_round mind in
     let round = open_round spec mind at.is_mind at.open_at in
     ap (λ (chosen : Option ℕ). asked chosen (counted (worded (sizes_in spec) mind))) (chosen_at_place spec fields words j k held at.range at.is_mind.process round) ∙ asked_worded (sizes_in spec) spec (chosen_at spec fields j k) (counted mind)
+same_taken (GetInput chosen) spec fields i words mind at held =
+    let round = subst (λ (k : ℕ). IsAgreementRound (sizes_in spec) k) at.round (open_round spec mind at.is_mind at.open_at.0) in
+    ap (λ (value : ℕ). got_input spec value (counted (worded (sizes_in spec) mind))) (held (places.Value chosen mind.process 0) (at.open_at.1, at.is_mind.process, round))
 same_taken (GetView chosen) spec fields i words mind at held =
     let j = mind.process in
     let k = current_round mind in
     let view = fields.view chosen j k in
     let one : mind.word < memory_words (sizes_in spec) = at.word in
-    let round = open_round spec mind at.is_mind at.open_at.0 in
+    let round = snapshot_round spec mind at.is_mind at.open_at.0 at.round in
     let into = with_loaded spec view (counted mind) in
     let is = loaded_worded spec mind view (slice_index words (index_in spec (places.View chosen j k mind.word))) at.is_mind.limits one (held (places.View chosen j k mind.word) (at.open_at.1, at.is_mind.process, round, one)) in
     let within = part_within (sizes_in spec) mind.word view mind.snapshot (at.range.view chosen j k) at.snapshot in

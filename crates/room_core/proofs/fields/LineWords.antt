@@ -11,14 +11,14 @@ use Rattle.room_spec.proofs.CallerLemmas.{are_memory_words}
 use Rattle.level_cells.specs.Packing.{packed, FitFields}
 use Rattle.level_cells.proofs.CallerLemmas.{fits, with_one_more}
 use Rattle.view_table.specs.declared.place.Place.TheVariants as places
-use Rattle.view_table.specs.Places.{IsMemoryWord, IsProcess, IsRound, words_of}
+use Rattle.view_table.specs.Places.{IsMemoryWord, IsProcess, IsRound, IsAgreementRound, words_of}
 use Rattle.view_table.specs.Words.{with_word}
 use Rattle.sim_memory.specs.Steps.{AreWithin, IsRaised, place_of, memory_word, with_part, word_of}
 use Rattle.sim_memory.proofs.CallerLemmas.{memory_at, part_here, word_below, word_raised, word_fits, within_raised}
 use Rattle.simulator.specs.declared.goal.Goal.{Goal}
 use Rattle.simulator.specs.declared.goal.Goal.TheVariants as goals
 use Rattle.simulator.specs.declared.line.Line.{Line}
-use Rattle.simulator.specs.declared.line.Line.TheVariants.{Rest, Raise, Snap, Show, Enter, Look, Leave, Ask, GetView, Values, Out}
+use Rattle.simulator.specs.declared.line.Line.TheVariants.{Rest, Raise, Snap, Show, Enter, Look, Leave, Ask, GetInput, GetView, Values, Out}
 use Rattle.simulator.specs.declared.operation.Move.TheVariants.{OutOfTurns}
 use Rattle.simulator.specs.Minds.{MindOf, goal_at, current_goal, current_round, next_process}
 use Rattle.simulator.specs.Turns.{counted}
@@ -28,8 +28,8 @@ use Rattle.room_core.specs.Fields.{StepMap, Fields, changed_pair, changed_triple
 use Rattle.room_core.specs.Reading.{worded}
 use Rattle.room_core.proofs.fields.Maps.{pair_here, pair_else, triple_here, triple_else}
 use Rattle.room_core.proofs.fields.Holding.{Hold, held_after, keeps_step, keeps_level, keeps_view, keeps_value, keeps_out}
-use Rattle.room_core.proofs.fields.Tracks.{raised_below, outside, inside}
-use Rattle.room_core.proofs.fields.Lines.{stored_first_at, stored_first, stored_on, StandsAt, open_round, first_place}
+use Rattle.room_core.proofs.fields.Tracks.{raised_below, outside, inside, round_most}
+use Rattle.room_core.proofs.fields.Lines.{stored_first_at, stored_first, stored_on, StandsAt, open_round, snapshot_round, first_place}
 
 -- ---- one more in a field of step numbers
 
@@ -78,7 +78,7 @@ level_taken m i word level after few below low own others is =
 -- ---- the stores of a simulator
 
 module _ (spec : RoomSpec) (fields : Fields) (i : ℕ) (words : List ℕ) (mind : MindOf StepMap) (whole : length words ≡ words_of (sizes_in spec)) (held : Hold (sizes_in spec) words fields) (below : i < spec.simulators) (number : mind.number ≡ i) where
-  stored_value : (j k value : ℕ) → IsProcess (sizes_in spec) j → IsRound (sizes_in spec) k
+  stored_value : (j k value : ℕ) → IsProcess (sizes_in spec) j → IsAgreementRound (sizes_in spec) k
       → Hold (sizes_in spec) (with_word (sizes_in spec) words (places.Value mind.number j k) value) (record fields { value = changed_triple fields.value i j k value })
   stored_value j k value process round =
       let after = record fields { value = changed_triple fields.value i j k value } in
@@ -113,7 +113,7 @@ module _ (spec : RoomSpec) (fields : Fields) (i : ℕ) (words : List ℕ) (mind 
       (held_after (sizes_in spec) words fields after (places.Memory own) ((old + 2 ^ place_of (sizes_in spec) i j) % 2 ^ 64) whole range held new
       (keeps_step (sizes_in spec) fields (changed_pair fields.step i j (fields.step i j + 1)) i j (raised_pair spec.simulators (sizes_in spec).n fields.step i j)))
 
-  stored_level : (j k level word : ℕ) → IsProcess (sizes_in spec) j → IsRound (sizes_in spec) k → word ≡ packed (λ a. changed_triple fields.level i j k level a j k) 2 spec.simulators
+  stored_level : (j k level word : ℕ) → IsProcess (sizes_in spec) j → IsAgreementRound (sizes_in spec) k → word ≡ packed (λ a. changed_triple fields.level i j k level a j k) 2 spec.simulators
       → Hold (sizes_in spec) (with_word (sizes_in spec) words (places.Levels j k) word) (record fields { level = changed_triple fields.level i j k level })
   stored_level j k level word process round is =
       held_after (sizes_in spec) words fields (record fields { level = changed_triple fields.level i j k level }) (places.Levels j k) word whole (process, round) held is (keeps_level (sizes_in spec) fields i j k level)
@@ -121,7 +121,7 @@ module _ (spec : RoomSpec) (fields : Fields) (i : ℕ) (words : List ℕ) (mind 
   other_levels : (j k level a : ℕ) → a ≢ i → changed_triple fields.level i j k level a j k ≡ fields.level a j k
   other_levels j k level a other = triple_else fields.level i j k level a j k (λ e _ _. other e)
 
-  raised_level : (j k level : ℕ) → IsWithinLimits spec → ((a b c : ℕ) → fields.level a b c ≤ 2) → level ≡ fields.level i j k + 1 → level ≤ 2 → IsProcess (sizes_in spec) j → IsRound (sizes_in spec) k
+  raised_level : (j k level : ℕ) → IsWithinLimits spec → ((a b c : ℕ) → fields.level a b c ≤ 2) → level ≡ fields.level i j k + 1 → level ≤ 2 → IsProcess (sizes_in spec) j → IsAgreementRound (sizes_in spec) k
       → Hold (sizes_in spec) (with_word (sizes_in spec) words (places.Levels j k) ((slice_index words (index_in spec (places.Levels j k)) + 2 ^ (2 * mind.number)) % 2 ^ 64)) (record fields { level = changed_triple fields.level i j k level })
   raised_level j k level limits low more most process round =
       let old = slice_index words (index_in spec (places.Levels j k)) in
@@ -129,7 +129,7 @@ module _ (spec : RoomSpec) (fields : Fields) (i : ℕ) (words : List ℕ) (mind 
       (ap (λ (n : ℕ). (old + 2 ^ (2 * n)) % 2 ^ 64) number
       ∙ level_added spec.simulators i old (λ a. fields.level a j k) (λ a. changed_triple fields.level i j k level a j k) limits.shape.m_range.1 below (λ a. low a j k) (omega arith) (triple_here fields.level i j k level ∙ more) (other_levels j k level) (held (places.Levels j k) (process, round)))
 
-  lowered_level : (j k : ℕ) → IsWithinLimits spec → ((a b c : ℕ) → fields.level a b c ≤ 2) → fields.level i j k ≡ 1 → IsProcess (sizes_in spec) j → IsRound (sizes_in spec) k
+  lowered_level : (j k : ℕ) → IsWithinLimits spec → ((a b c : ℕ) → fields.level a b c ≤ 2) → fields.level i j k ≡ 1 → IsProcess (sizes_in spec) j → IsAgreementRound (sizes_in spec) k
       → Hold (sizes_in spec) (with_word (sizes_in spec) words (places.Levels j k) ((slice_index words (index_in spec (places.Levels j k)) + (2 ^ 64 - 2 ^ (2 * mind.number))) % 2 ^ 64)) (record fields { level = changed_triple fields.level i j k 0 })
   lowered_level j k limits low one process round =
       let old = slice_index words (index_in spec (places.Levels j k)) in
@@ -143,6 +143,8 @@ module _ (spec : RoomSpec) (fields : Fields) (i : ℕ) (words : List ℕ) (mind 
   first_stored goal j false is_mind is moves = absurd moves
   first_stored (goals.Write k value) j true is_mind is moves = let place = first_place spec mind j (goals.Write k value) is_mind is refl in stored_value j k value place.0 place.1
   first_stored (goals.Ask k) j true is_mind is moves = held
+  first_stored (goals.Propose value) j true is_mind is moves = let place = first_place spec mind j (goals.Propose value) is_mind is refl in stored_value j 0 value place.0 place.1
+  first_stored goals.AskInput j true is_mind is moves = held
   first_stored goals.Done j true is_mind is moves = absurd moves
   first_stored goals.Spent j true is_mind is moves = absurd moves
 
@@ -156,11 +158,11 @@ pub held_line : (line : Line) (spec : RoomSpec) (fields : Fields) (i : ℕ) (wor
     → Hold (sizes_in spec) (words_after (move_at line spec (worded (sizes_in spec) mind)) words) (stored_on line spec fields i mind.process (current_round mind) (counted mind))
 held_line Rest spec fields i words mind whole at held = next_stored spec fields i words mind whole held at.below at.number (next_process mind.goals mind.process) at.is_mind at.moves
 held_line Raise spec fields i words mind whole at held =
-    let room = raised_below (current_goal mind) spec.rounds (fields.step i mind.process) (fields.level i mind.process) (at.is_mind.rounds mind.process at.is_mind.process) at.own in
+    let room = raised_below (current_goal mind) spec.rounds (fields.step i mind.process) (fields.level i mind.process) (round_most (sizes_in spec) (current_goal mind) (at.is_mind.rounds mind.process at.is_mind.process)) at.own in
     stored_step spec fields i words mind whole held at.below at.number mind.process at.is_mind.limits (λ a p _ _. at.range.step a p) at.is_mind.process room
 held_line Snap spec fields i words mind whole at held = held
 held_line Show spec fields i words mind whole at held =
-    let round = open_round spec mind at.is_mind at.open_at in
+    let round = snapshot_round spec mind at.is_mind at.open_at at.round in
     let w = mind.word in
     let one : w < memory_words (sizes_in spec) = at.word in
     let few = (are_memory_words (sizes_in spec) at.is_mind.limits.shape).few in
@@ -181,6 +183,7 @@ held_line (Leave false) spec fields i words mind whole at held =
     let one = inside spec.rounds (current_goal mind) (fields.step i mind.process) (fields.level i mind.process) at.own in
     raised_level spec fields i words mind whole held at.below at.number mind.process (current_round mind) 2 at.is_mind.limits at.range.level (omega arith) (omega arith) at.is_mind.process round
 held_line Ask spec fields i words mind whole at held = held
+held_line (GetInput chosen) spec fields i words mind whole at held = held
 held_line (GetView chosen) spec fields i words mind whole at held = held
 held_line Values spec fields i words mind whole at held = held
 held_line (Out decision) spec fields i words mind whole at held = stored_out spec fields i words mind whole held at.below at.number mind.process (decision + 1) at.is_mind.process

@@ -1,15 +1,16 @@
 -- What a simulator's mind tells of its fields: how far it has counted each process, and where it stands in each agreement.
-use Rattle.std.proofs.Common.{◌≡◌, ◌≢◌, ℕ, ◌+◌, ◌<◌, ◌≤◌, Bool, true, false, cond, eqb, ltb, List, length, get_or, set, refl, sym, ap, ◌∙◌, subst, arith}
+use Rattle.std.proofs.Common.{◌≡◌, ◌≢◌, ℕ, zero, suc, ◌+◌, ◌<◌, ◌≤◌, Bool, true, false, cond, eqb, ltb, List, length, get_or, set, refl, sym, ap, ◌∙◌, subst, arith}
 use Rattle.std.proofs.lemmas.Bool.{eq-eqb, ne_eqb, ltb-false}
 use Rattle.std.proofs.lemmas.List.{get_or-set_same, get_or-set_other}
 use mathlib.Core.Logic.{dite}
 use native.Mathlib.Decide.{ℕ_discrete}
+use Rattle.room_spec.specs.Sizes.{Sizes}
 use Rattle.simulator.specs.declared.goal.Goal.{Goal}
 use Rattle.simulator.specs.declared.goal.Goal.TheVariants as goals
 use Rattle.simulator.specs.declared.line.Line.{Line}
 use Rattle.simulator.specs.declared.line.Line.TheVariants.{Rest}
 use Rattle.simulator.specs.Minds.{MindOf, goal_at, current_goal, round_of}
-use Rattle.simulator.specs.Turns.{after_write}
+use Rattle.simulator.specs.Turns.{after_write, asks_in}
 use Rattle.simulator.specs.Ranges.{IsGoal}
 use Rattle.room_core.specs.Fields.{StepMap, changed}
 use Rattle.room_core.specs.Tracks.{Stage, AtRest, Stored, Counted, Inside, Past, stage_of, IsZeroFrom, NoOneBelow, Counts, Levels, Tells, stage_for, ToldBy}
@@ -47,18 +48,24 @@ levels_left step round level entry same other all = (
 counts_raised : (rounds : ℕ) (goal : Goal) (step : ℕ) → Counts rounds goal Stored step → Counts rounds goal Counted (step + 1)
 counts_raised rounds (goals.Write k value) step told = told
 counts_raised rounds (goals.Ask k) step told = absurd told
+counts_raised rounds (goals.Propose value) step told = absurd told
+counts_raised rounds goals.AskInput step told = absurd told
 counts_raised rounds goals.Done step told = absurd told
 counts_raised rounds goals.Spent step told = absurd told
 
 counts_entered : (rounds : ℕ) (goal : Goal) (step : ℕ) → Counts rounds goal Counted step → Counts rounds goal Inside step
 counts_entered rounds (goals.Write k value) step told = told
 counts_entered rounds (goals.Ask k) step told = absurd told
+counts_entered rounds (goals.Propose value) step told = told
+counts_entered rounds goals.AskInput step told = absurd told
 counts_entered rounds goals.Done step told = absurd told
 counts_entered rounds goals.Spent step told = absurd told
 
 counts_left : (rounds : ℕ) (goal : Goal) (step : ℕ) → Counts rounds goal Inside step → Counts rounds goal Past step
 counts_left rounds (goals.Write k value) step told = told
 counts_left rounds (goals.Ask k) step told = absurd told
+counts_left rounds (goals.Propose value) step told = told
+counts_left rounds goals.AskInput step told = absurd told
 counts_left rounds goals.Done step told = absurd told
 counts_left rounds goals.Spent step told = absurd told
 
@@ -66,45 +73,59 @@ counts_left rounds goals.Spent step told = absurd told
 pub stored_round : (rounds : ℕ) (goal : Goal) (step : ℕ) → Counts rounds goal Stored step → step + 1 ≡ round_of goal
 stored_round rounds (goals.Write k value) step told = told
 stored_round rounds (goals.Ask k) step told = absurd told
+stored_round rounds (goals.Propose value) step told = absurd told
+stored_round rounds goals.AskInput step told = absurd told
 stored_round rounds goals.Done step told = absurd told
 stored_round rounds goals.Spent step told = absurd told
 
 pub counted_round : (rounds : ℕ) (goal : Goal) (step : ℕ) → Counts rounds goal Counted step → step ≡ round_of goal
 counted_round rounds (goals.Write k value) step told = told
 counted_round rounds (goals.Ask k) step told = absurd told
+counted_round rounds (goals.Propose value) step told = told
+counted_round rounds goals.AskInput step told = absurd told
 counted_round rounds goals.Done step told = absurd told
 counted_round rounds goals.Spent step told = absurd told
 
 pub inside_round : (rounds : ℕ) (goal : Goal) (step : ℕ) → Counts rounds goal Inside step → step ≡ round_of goal
 inside_round rounds (goals.Write k value) step told = told
 inside_round rounds (goals.Ask k) step told = absurd told
+inside_round rounds (goals.Propose value) step told = told
+inside_round rounds goals.AskInput step told = absurd told
 inside_round rounds goals.Done step told = absurd told
 inside_round rounds goals.Spent step told = absurd told
 
 pub past_round : (rounds : ℕ) (goal : Goal) (step : ℕ) → Counts rounds goal Past step → step ≡ round_of goal
 past_round rounds (goals.Write k value) step told = told
 past_round rounds (goals.Ask k) step told = told
+past_round rounds (goals.Propose value) step told = told
+past_round rounds goals.AskInput step told = told
 past_round rounds goals.Done step told = absurd told
 past_round rounds goals.Spent step told = absurd told
 
 -- a goal with a round of its own is of one of the rounds
-pub round_most : (rounds : ℕ) (goal : Goal) → IsGoal rounds goal → round_of goal ≤ rounds
-round_most rounds (goals.Write k value) range = range.1
-round_most rounds (goals.Ask k) range = range.1
-round_most rounds goals.Done range = omega arith
-round_most rounds goals.Spent range = omega arith
+pub round_most : (sizes : Sizes) (goal : Goal) → IsGoal sizes goal → round_of goal ≤ sizes.rounds
+round_most sizes (goals.Write k value) range = range.1
+round_most sizes (goals.Ask k) range = range.1
+round_most sizes (goals.Propose value) range = omega arith
+round_most sizes goals.AskInput range = omega arith
+round_most sizes goals.Done range = omega arith
+round_most sizes goals.Spent range = omega arith
 
-counts_next : (b : Bool) (rounds k value step : ℕ) → ltb k rounds ≡ b → k ≤ rounds → step ≡ k → Counts rounds (cond b (goals.Write (k + 1) value) goals.Spent) AtRest step
-counts_next true rounds k value step test most same = ap (λ (x : ℕ). x + 1) same
-counts_next false rounds k value step test most same = let last = ltb-false k rounds test in omega arith
+tells_next : (b : Bool) (rounds k value step : ℕ) (level : ℕ → ℕ) → ltb k rounds ≡ b → k ≤ rounds → step ≡ k → Levels Past step level → Tells rounds (cond b (goals.Write (k + 1) value) goals.Spent) AtRest step level
+tells_next true rounds k value step level test most same levels = record { counts = ap (λ (x : ℕ). x + 1) same; levels = levels }
+tells_next false rounds k value step level test most same levels = record { counts = let last = ltb-false k rounds test in omega arith; levels = levels }
+
+tells_asks_in : (rounds round step : ℕ) (level : ℕ → ℕ) → step ≡ round → Levels Past step level → Tells rounds (asks_in round) AtRest step level
+tells_asks_in rounds zero step level same levels = record { counts = same; levels = levels }
+tells_asks_in rounds (suc round) step level same levels = record { counts = same; levels = levels }
 
 -- ---- both, from line to line
 
 pub tells_raised : (rounds : ℕ) (goal : Goal) (step : ℕ) (level : ℕ → ℕ) → Tells rounds goal Stored step level → Tells rounds goal Counted (step + 1) level
 tells_raised rounds goal step level told = record { counts = counts_raised rounds goal step told.counts; levels = told.levels }
 
-pub raised_below : (goal : Goal) (rounds step : ℕ) (level : ℕ → ℕ) → IsGoal rounds goal → Tells rounds goal Stored step level → step < rounds
-raised_below goal rounds step level range told = let e = stored_round rounds goal step told.counts in let b = round_most rounds goal range in omega arith
+pub raised_below : (goal : Goal) (rounds step : ℕ) (level : ℕ → ℕ) → round_of goal ≤ rounds → Tells rounds goal Stored step level → step < rounds
+raised_below goal rounds step level range told = let e = stored_round rounds goal step told.counts in omega arith
 
 pub outside : (rounds : ℕ) (goal : Goal) (step : ℕ) (level : ℕ → ℕ) → Tells rounds goal Counted step level → level (round_of goal) ≡ 0
 outside rounds goal step level told = let e = counted_round rounds goal step told.counts in told.levels.0 (round_of goal) (omega arith)
@@ -124,14 +145,16 @@ tells_left rounds goal step level entry other told = record {
   levels = levels_left step (round_of goal) level entry (inside_round rounds goal step told.counts) other told.levels;
 }
 
-pub tells_asked : (rounds : ℕ) (goal : Goal) (step : ℕ) (level : ℕ → ℕ) → Tells rounds goal Past step level → Tells rounds (goals.Ask (round_of goal)) AtRest step level
-tells_asked rounds goal step level told = record { counts = past_round rounds goal step told.counts; levels = told.levels }
+pub tells_asked : (rounds : ℕ) (goal : Goal) (step : ℕ) (level : ℕ → ℕ) → Tells rounds goal Past step level → Tells rounds (asks_in (round_of goal)) AtRest step level
+tells_asked rounds goal step level told = tells_asks_in rounds (round_of goal) step level (past_round rounds goal step told.counts) told.levels
 
-pub tells_written : (rounds : ℕ) (goal : Goal) (value step : ℕ) (level : ℕ → ℕ) → IsGoal rounds goal → Tells rounds goal Past step level → Tells rounds (after_write rounds (round_of goal) value) AtRest step level
-tells_written rounds goal value step level range told = record {
-  counts = counts_next (ltb (round_of goal) rounds) rounds (round_of goal) value step refl (round_most rounds goal range) (past_round rounds goal step told.counts);
-  levels = told.levels;
-}
+pub tells_written : (rounds : ℕ) (goal : Goal) (value step : ℕ) (level : ℕ → ℕ) → round_of goal ≤ rounds → Tells rounds goal Past step level → Tells rounds (after_write rounds (round_of goal) value) AtRest step level
+tells_written rounds goal value step level range told =
+    tells_next (ltb (round_of goal) rounds) rounds (round_of goal) value step level refl range (past_round rounds goal step told.counts) told.levels
+
+-- a process that has its input is about to make its first write
+pub tells_input : (rounds : ℕ) (goal : Goal) (value step : ℕ) (level : ℕ → ℕ) → round_of goal ≡ 0 → Tells rounds goal Past step level → Tells rounds (goals.Write 1 value) AtRest step level
+tells_input rounds goal value step level none told = record { counts = let e = past_round rounds goal step told.counts in omega (arith, e, none); levels = told.levels }
 
 pub tells_decided : (rounds : ℕ) (goal : Goal) (step : ℕ) (level : ℕ → ℕ) → Tells rounds goal Past step level → Tells rounds goals.Done AtRest step level
 tells_decided rounds goal step level told = record { counts = tt; levels = told.levels }
@@ -165,6 +188,16 @@ told_by rounds mind step level others own p = dite (ℕ_discrete p mind.process)
 same_branches : {A : Type 0} (b : Bool) (x : A) → cond b x x ≡ x
 same_branches true x = refl
 same_branches false x = refl
+
+-- at which stage a mind is with a process
+pub rest_stage_for : (mind : MindOf StepMap) (p : ℕ) → mind.line ≡ Rest → stage_for mind p ≡ AtRest
+rest_stage_for mind p rest = ap (λ (line : Line). cond (eqb p mind.process) (stage_of line) AtRest) rest ∙ same_branches (eqb p mind.process) AtRest
+
+pub aside_stage_for : (mind : MindOf StepMap) (p : ℕ) → p ≢ mind.process → stage_for mind p ≡ AtRest
+aside_stage_for mind p other = ap (λ (b : Bool). cond b (stage_of mind.line) AtRest) (ne_eqb p mind.process other)
+
+pub here_stage_for : (mind : MindOf StepMap) (p : ℕ) → p ≡ mind.process → stage_for mind p ≡ stage_of mind.line
+here_stage_for mind p same = ap (λ (b : Bool). cond b (stage_of mind.line) AtRest) (eq-eqb p mind.process same)
 
 -- between two turns
 pub at_rest : (rounds : ℕ) (mind : MindOf StepMap) (step : ℕ → ℕ) (level : ℕ → ℕ → ℕ) → mind.line ≡ Rest → ToldBy rounds mind step level → (p : ℕ) → Tells rounds (goal_at mind.goals p) AtRest (step p) (level p)

@@ -1,5 +1,5 @@
 -- A mind whose snapshot is a word takes the same course as the mind whose snapshot is its map.
-use Rattle.std.proofs.Common.{◌≡◌, ℕ, zero, suc, ◌+◌, ◌-◌, ◌<◌, ◌≤◌, Bool, true, false, cond, eqb, ltb, List, [], ◌∷◌, ◌++◌, length, Option, Some, None, slice_index, refl, sym, ap, ◌∙◌, arith}
+use Rattle.std.proofs.Common.{◌≡◌, ℕ, zero, suc, ◌+◌, ◌-◌, ◌<◌, ◌≤◌, Bool, true, false, cond, eqb, ltb, List, [], ◌∷◌, ◌++◌, length, Option, Some, None, refl, sym, ap, ◌∙◌, arith}
 use Rattle.std.proofs.lemmas.List.{length-append}
 use Rattle.protocol_lang.specs.Meaning.{next_action}
 use Rattle.protocol_lang.specs.declared.meaning.Action.{Action}
@@ -10,7 +10,7 @@ use Rattle.std.specs.Prelude.{◌&&◌, ◌||◌}
 use Rattle.simulator.specs.declared.goal.Goal.{Goal}
 use Rattle.simulator.specs.declared.goal.Goal.TheVariants as goals
 use Rattle.simulator.specs.declared.line.Line.TheVariants.{Snap, Show, Enter, GetView, Values}
-use Rattle.simulator.specs.Minds.{MindOf, goal_at, current_round}
+use Rattle.simulator.specs.Minds.{MindOf, goal_at, current_input, current_round}
 use Rattle.simulator.specs.Turns.{TakenOf, begun, collected, goes_on, got_view, most_collects, scanned, showed, snapped, words_in, asked, acted, padded, gathered_all, gathered, opened_at, opened}
 use Rattle.simulator.proofs.CallerLemmas.{added, added_more}
 use Rattle.room_core.specs.Fields.{StepMap}
@@ -37,6 +37,8 @@ module _ (sizes : Sizes) (spec : RoomSpec) where
   opened_at_worded : (goal : Goal) (chosen : Option ℕ) (mind : MindOf StepMap) → opened_at goal chosen (worded sizes mind) ≡ worded_taken sizes (opened_at goal chosen mind)
   opened_at_worded (goals.Write k value) chosen mind = refl
   opened_at_worded (goals.Ask k) chosen mind = asked_worded chosen mind
+  opened_at_worded (goals.Propose value) chosen mind = refl
+  opened_at_worded goals.AskInput chosen mind = asked_worded chosen mind
   opened_at_worded goals.Done chosen mind = refl
   opened_at_worded goals.Spent chosen mind = refl
 
@@ -53,7 +55,7 @@ module _ (sizes : Sizes) (spec : RoomSpec) where
   all_worded false action mind = acted_worded action mind
 
   gathered_all_worded : (mind : MindOf StepMap) → gathered_all spec (worded sizes mind) ≡ worded_taken sizes (gathered_all spec mind)
-  gathered_all_worded mind = all_worded (ltb (length mind.entries) (processes spec)) (next_action spec.protocol (slice_index spec.inputs mind.process) mind.process (current_round mind) mind.entries) mind
+  gathered_all_worded mind = all_worded (ltb (length mind.entries) (processes spec)) (next_action spec.protocol (current_input spec mind) mind.process (current_round mind) mind.entries) mind
 
   pub gathered_worded : (row other : ℕ → ℕ) (entries : List (Option ℕ)) (mind : MindOf StepMap) → length entries ≤ processes spec → ((p : ℕ) → p < processes spec → row p ≡ other p) → gathered row spec entries (worded sizes mind) ≡ worded_taken sizes (gathered other spec entries mind)
   gathered_worded row other entries mind fits same =

@@ -11,7 +11,7 @@ use Rattle.room_core.specs.Fields.{StepMap, Fields, opening_fields, line, with_c
 use Rattle.room_core.specs.Moments.{fields_at, steps_at, HasCounted, EndsCollect, IsMoment, IsScan}
 use Rattle.room_core.specs.Tracks.{StandsFor}
 use Rattle.room_core.proofs.agreements.Stages.{Progress, Uncounted, Scanned, Past, later}
-use Rattle.room_core.proofs.fields.Effects.{Own, own_of, process_on, round_on, is_end, IsLastWord, IsLineOf, ScanEnds, line_effect, step_loaded, Effect, stores, raises, collects_word, collects_again, scans, shows_word, shows, loads_word, enters, looks, leaves, asks_in_vain, finds, gathers, goes_to, will_decide, decides}
+use Rattle.room_core.proofs.fields.Effects.{gets_not, Own, own_of, process_on, round_on, is_end, IsLastWord, IsLineOf, ScanEnds, line_effect, step_loaded, Effect, stores, proposes, raises, collects_word, collects_again, scans, shows_word, shows, loads_word, enters, looks, leaves, asks_in_vain, finds, gets_input, gathers, goes_to, will_decide, decides}
 use Rattle.std.proofs.Common.{Bool, true, false, eqb, ltb}
 use Rattle.std.specs.Prelude.{◌&&◌, ◌||◌}
 use Rattle.std.proofs.lemmas.Bool.{eqb-true, lt-ltb}
@@ -172,6 +172,7 @@ module _ (spec : RoomSpec) (limits : IsWithinLimits spec) (schedule : List Sched
 
   line_collects : (after : Own) → Effect spec fields own after → (words_in spec ≢ 1 → own.mind.line ≡ Snap → Was) → (own.mind.line ≡ Snap → IsLastWord spec own → after.mind.line ≡ Snap → after.step (process_on after) ≡ round_on after → EndsCollect spec schedule i (process_on after) (round_on after) after.mind.collects (now + 1)) → words_in spec ≢ 1 → after.mind.line ≡ Snap → Becomes after
   line_collects after (stores j k value rest goal count process first last) was counts several is = absurd cc
+  line_collects after (proposes j value rest goal none unentered within kind) was counts several is = absurd cc
   line_collects after (raises turn whole begun count) was counts several is =
       subst (λ (word : ℕ). IsCollecting (sizes_in spec) (EndsCollect spec schedule i (process_on after) (round_on after) own.mind.collects) (steps_at spec schedule) (now + 1) own.mind.before own.mind.snapshot word own.mind.collects) (sym whole)
       (subst (λ (collects : ℕ). IsCollecting (sizes_in spec) (EndsCollect spec schedule i (process_on after) (round_on after) collects) (steps_at spec schedule) (now + 1) own.mind.before own.mind.snapshot 0 collects) (sym begun)
@@ -192,7 +193,8 @@ module _ (spec : RoomSpec) (limits : IsWithinLimits spec) (schedule : List Sched
   line_collects after (looks turn count one) was counts several is = absurd cc
   line_collects after (leaves saw_two turn count one) was counts several is = absurd cc
   line_collects after (asks_in_vain asking asks none) was counts several is = absurd cc
-  line_collects after (finds asking chosen asks some) was counts several is = absurd cc
+  line_collects after (finds asking chosen asks some) was counts several is = absurd (gets_not (current_round asking) chosen Snap refl is)
+  line_collects after (gets_input chosen turn count less) was counts several is = absurd cc
   line_collects after (loads_word found turn less more) was counts several is = absurd cc
   line_collects after (gathers reading reads more) was counts several is = absurd cc
   line_collects after (goes_to reading given reads all action) was counts several is = absurd cc
@@ -260,6 +262,7 @@ module _ (spec : RoomSpec) (fields : Fields) (own : Own) where
 
   line_stores : (after : Own) → Effect spec fields own after → (own.mind.line ≡ Show → IsStored spec own) → after.mind.line ≡ Show → IsStored spec after
   line_stores after (stores j k value rest goal count process first last) was is = absurd cc
+  line_stores after (proposes j value rest goal none unentered within kind) was is = absurd cc
   line_stores after (raises turn whole begun count) was is = absurd cc
   line_stores after (collects_word turn count none more) was is = absurd cc
   line_stores after (collects_again turn count none last several goes) was is = absurd cc
@@ -272,7 +275,8 @@ module _ (spec : RoomSpec) (fields : Fields) (own : Own) where
   line_stores after (looks turn count one) was is = absurd cc
   line_stores after (leaves saw_two turn count one) was is = absurd cc
   line_stores after (asks_in_vain asking asks none) was is = absurd cc
-  line_stores after (finds asking chosen asks some) was is = absurd cc
+  line_stores after (finds asking chosen asks some) was is = absurd (gets_not (current_round asking) chosen Show refl is)
+  line_stores after (gets_input chosen turn count less) was is = absurd cc
   line_stores after (loads_word found turn less more) was is = absurd cc
   line_stores after (gathers reading reads more) was is = absurd cc
   line_stores after (goes_to reading given reads all action) was is = absurd cc
@@ -283,6 +287,7 @@ module _ (spec : RoomSpec) (limits : IsWithinLimits spec) (schedule : List Sched
     (grows : (s t : ℕ) → s ≤ t → t ≤ now + 1 → AreAtMost spec.simulators (processes spec) (steps_at spec schedule s) (steps_at spec schedule t)) (own : Own) (below : i < spec.simulators) (mine : own.step ≡ fields.step i) where
   line_ends : (after : Own) → Effect spec fields own after → (words_in spec ≢ 1 → own.mind.line ≡ Snap → Collects spec schedule now i own) → (own.mind.line ≡ Show → Scans spec schedule now i own) → after.mind.line ≡ Show → Scans spec schedule now i after
   line_ends after (stores j k value rest goal count process first last) was kept is = absurd cc
+  line_ends after (proposes j value rest goal none unentered within kind) was kept is = absurd cc
   line_ends after (raises turn whole begun count) was kept is = absurd cc
   line_ends after (collects_word turn count none more) was kept is = absurd cc
   line_ends after (collects_again turn count none last several goes) was kept is = absurd cc
@@ -293,7 +298,8 @@ module _ (spec : RoomSpec) (limits : IsWithinLimits spec) (schedule : List Sched
   line_ends after (looks turn count one) was kept is = absurd cc
   line_ends after (leaves saw_two turn count one) was kept is = absurd cc
   line_ends after (asks_in_vain asking asks none) was kept is = absurd cc
-  line_ends after (finds asking chosen asks some) was kept is = absurd cc
+  line_ends after (finds asking chosen asks some) was kept is = absurd (gets_not (current_round asking) chosen Show refl is)
+  line_ends after (gets_input chosen turn count less) was kept is = absurd cc
   line_ends after (loads_word found turn less more) was kept is = absurd cc
   line_ends after (gathers reading reads more) was kept is = absurd cc
   line_ends after (goes_to reading given reads all action) was kept is = absurd cc

@@ -6,11 +6,11 @@ use mathlib.Core.Logic.{dite}
 use native.Mathlib.Decide.{ℕ_discrete}
 use Rattle.room_spec.specs.Rooms.{RoomSpec, processes}
 use Rattle.simulator.specs.declared.line.Line.TheVariants.{Snap, Show}
-use Rattle.simulator.specs.Minds.{MindOf}
+use Rattle.simulator.specs.Minds.{MindOf, current_round}
 use Rattle.room_core.specs.Fields.{StepMap, Fields, changed, changed_pair, with_shown}
 use Rattle.room_core.proofs.fields.Maps.{changed_here, changed_else, pair_here, pair_else}
-use Rattle.room_core.proofs.agreements.Stages.{Progress, Uncounted, Fresh, Scanned, Shown, Inside, Seen, Past, line_progress, progress_in, later, earlier, now, resting}
-use Rattle.room_core.proofs.fields.Effects.{Own, process_on, round_on, IsTurn, IsLastWord, ScanEnds, step_loaded, Effect, stores, raises, collects_word, collects_again, scans, shows_word, shows, loads_word, enters, looks, leaves, asks_in_vain, finds, gathers, goes_to, will_decide, decides}
+use Rattle.room_core.proofs.agreements.Stages.{gets_past, Progress, Uncounted, Fresh, Scanned, Shown, Inside, Seen, Past, line_progress, progress_in, later, earlier, now, resting}
+use Rattle.room_core.proofs.fields.Effects.{Own, process_on, round_on, IsTurn, IsLastWord, ScanEnds, step_loaded, Effect, stores, proposes, raises, collects_word, collects_again, scans, shows_word, shows, loads_word, enters, looks, leaves, asks_in_vain, finds, gets_input, gathers, goes_to, will_decide, decides}
 use Rattle.room_core.proofs.agreements.PhaseSteps.{progress_else}
 
 -- it has proposed
@@ -155,11 +155,14 @@ module _ (spec : RoomSpec) (fields : Fields) (own : Own) (p r : ℕ) where
   pub own_shown : (after : Own) → Effect spec fields own after → HasShown (progress_own after p r)
       → (HasShown (progress_own own p r) × (after.view p r ≡ own.view p r)) ⊎ ((progress_own own p r ≡ Scanned) × (after.view p r ≡ with_shown spec (own.view p r) own.mind) × IsLastWord spec own × (p ≡ own.mind.process) × (r ≡ round_on own) × (own.mind.line ≡ Show) × (p < processes spec))
   own_shown after (stores j k value rest goal count process first last) shown = quiet_shown after.mind (ap line_progress rest) refl shown
+  own_shown after (proposes j value rest goal none unentered within kind) shown =
+      inl (subst HasShown (resting (own.step p) r (eqb p j) (eqb p own.mind.process) Past (line_progress own.mind.line) refl (ap line_progress rest)) (shown_line (own.step p) r (eqb p j) Past Shown (λ s. tt) shown), refl)
   own_shown after (raises turn whole begun count) shown =
       inl (subst (λ (l : Progress). HasShown (progress_in (own.step p) r (eqb p own.mind.process) l)) (sym (ap line_progress turn.stands)) (raise_shown (ap line_progress turn.stands) shown), refl)
   own_shown after (collects_word turn count none more) shown = next_shown Fresh Fresh (ap line_progress turn.stands) (λ s. s) shown
   own_shown after (collects_again turn count none last several goes) shown = next_shown Fresh Fresh (ap line_progress turn.stands) (λ s. s) shown
   own_shown after (scans collects turn count none last ends) shown = next_shown Fresh Scanned (ap line_progress turn.stands) (λ s. s) shown
+  own_shown after (gets_input chosen turn count less) shown = quiet_shown after.mind (ap line_progress turn.stands) refl shown
   own_shown after (loads_word found turn less more) shown = quiet_shown after.mind (ap line_progress turn.stands) refl shown
   own_shown after (shows_word turn count none more) shown = show_word_shown (ap line_progress turn.stands) count shown
   own_shown after (shows turn count none last) shown = show_shown turn count last shown
@@ -167,7 +170,7 @@ module _ (spec : RoomSpec) (fields : Fields) (own : Own) (p r : ℕ) where
   own_shown after (looks turn count one) shown = next_shown Inside (line_progress after.mind.line) (ap line_progress turn.stands) (λ s. tt) shown
   own_shown after (leaves saw_two turn count one) shown = next_shown (Seen saw_two) Past (ap line_progress turn.stands) (λ s. s) shown
   own_shown after (asks_in_vain asking asks is) shown = quiet_shown after.mind asks.past refl shown
-  own_shown after (finds asking chosen asks is) shown = quiet_shown after.mind asks.past refl shown
+  own_shown after (finds asking chosen asks is) shown = quiet_shown after.mind asks.past (gets_past (current_round asking) chosen) shown
   own_shown after (gathers reading reads more) shown = quiet_shown after.mind reads.past refl shown
   own_shown after (goes_to reading value reads all is) shown = quiet_shown after.mind reads.past refl shown
   own_shown after (will_decide reading decision reads all is) shown = quiet_shown after.mind reads.past refl shown
@@ -186,6 +189,7 @@ module _ (spec : RoomSpec) (fields : Fields) (own : Own) (p r : ℕ) where
   pub own_scanned : (after : Own) → Effect spec fields own after → progress_own after p r ≡ Scanned
       → ((progress_own own p r ≡ Scanned) × (after.mind.snapshot ≡ own.mind.snapshot)) ⊎ ((after.mind.snapshot ≡ (step_loaded spec fields own).snapshot) × (own.step p ≡ r) × (p ≡ own.mind.process) × (own.mind.line ≡ Snap) × IsLastWord spec own × (p < processes spec) × (own.step (process_on own) ≡ round_on own) × ScanEnds spec fields own after.mind.collects)
   own_scanned after (stores j k value rest goal count process first last) is = absurd (not_scanned after.mind after.step Past refl past_not is)
+  own_scanned after (proposes j value rest goal none unentered within kind) is = absurd (not_scanned after.mind after.step Shown refl (λ e. cc) is)
   own_scanned after (raises turn whole begun count) is = absurd (not_scanned after.mind after.step Fresh refl (λ e. cc) is)
   own_scanned after (collects_word turn count none more) is = absurd (not_scanned after.mind after.step Fresh refl (λ e. cc) is)
   own_scanned after (collects_again turn count none last several goes) is = absurd (not_scanned after.mind after.step Fresh refl (λ e. cc) is)
@@ -193,6 +197,7 @@ module _ (spec : RoomSpec) (fields : Fields) (own : Own) (p r : ℕ) where
       let at = scanned_by (own.step p) r (eqb p own.mind.process) Scanned is in
       let same : p ≡ own.mind.process = eqb-true p own.mind.process at.1 in
       inr (refl, at.0, same, turn.stands, last, let below = turn.process in omega (arith, same, below), count, ends)
+  own_scanned after (gets_input chosen turn count less) is = absurd (not_scanned after.mind after.step Past refl past_not is)
   own_scanned after (loads_word found turn less more) is = absurd (not_scanned after.mind after.step Past refl past_not is)
   own_scanned after (shows_word turn count none more) is = inl (progress_scanned (ap line_progress turn.stands) is, refl)
   own_scanned after (shows turn count none last) is = absurd (not_scanned after.mind after.step Shown refl (λ e. cc) is)
@@ -200,7 +205,7 @@ module _ (spec : RoomSpec) (fields : Fields) (own : Own) (p r : ℕ) where
   own_scanned after (looks turn count one) is = absurd (not_scanned after.mind after.step (line_progress after.mind.line) refl (λ e. cc) is)
   own_scanned after (leaves saw_two turn count one) is = absurd (not_scanned after.mind after.step Past refl past_not is)
   own_scanned after (asks_in_vain asking asks is') is = absurd (not_scanned after.mind after.step Past refl past_not is)
-  own_scanned after (finds asking chosen asks is') is = absurd (not_scanned after.mind after.step Past refl past_not is)
+  own_scanned after (finds asking chosen asks is') is = absurd (not_scanned after.mind after.step Past (gets_past (current_round asking) chosen) past_not is)
   own_scanned after (gathers reading reads more) is = absurd (not_scanned after.mind after.step Past refl past_not is)
   own_scanned after (goes_to reading value reads all is') is = absurd (not_scanned after.mind after.step Past refl past_not is)
   own_scanned after (will_decide reading decision reads all is') is = absurd (not_scanned after.mind after.step Past refl past_not is)
@@ -215,10 +220,12 @@ raised_most step j p = dite (ℕ_discrete p j)
 
 pub own_grows : (spec : RoomSpec) (fields : Fields) (own after : Own) (p : ℕ) → Effect spec fields own after → own.step p ≤ after.step p
 own_grows spec fields own after p (stores j k value rest goal count process first last) = omega arith
+own_grows spec fields own after p (proposes j value rest goal none unentered within kind) = omega arith
 own_grows spec fields own after p (raises turn whole begun count) = raised_most own.step own.mind.process p
 own_grows spec fields own after p (collects_word turn count none more) = omega arith
 own_grows spec fields own after p (collects_again turn count none last several goes) = omega arith
 own_grows spec fields own after p (scans collects turn count none last ends) = omega arith
+own_grows spec fields own after p (gets_input chosen turn count less) = omega arith
 own_grows spec fields own after p (loads_word found turn less more) = omega arith
 own_grows spec fields own after p (shows_word turn count none more) = omega arith
 own_grows spec fields own after p (shows turn count none last) = omega arith

@@ -1,17 +1,17 @@
 -- A simulator counts the first write of each process before the second of any. So what is proposed for a later round shows every process.
-use Rattle.std.proofs.Common.{◌≡◌, ◌≢◌, ℕ, zero, suc, ◌+◌, ◌<◌, ◌≤◌, List, [], ◌∷◌, ◌++◌, set, take, true, Option, refl, sym, ap, ◌∙◌, subst, arith}
+use Rattle.std.proofs.Common.{◌≡◌, replicate, cond, false, Bool, ◌≢◌, ℕ, zero, suc, ◌+◌, ◌<◌, ◌≤◌, List, [], ◌∷◌, ◌++◌, set, take, true, Option, refl, sym, ap, ◌∙◌, subst, arith}
 use Rattle.std.specs.Prelude.{slice_index, unwrap_or}
 use Rattle.std.proofs.lemmas.List.{get_or-set_other}
 use mathlib.Core.Logic.{dite}
 use native.Mathlib.Decide.{ℕ_discrete}
-use Rattle.room_spec.specs.Rooms.{RoomSpec, IsWithinLimits, processes}
+use Rattle.room_spec.specs.Rooms.{is_reduction, RoomSpec, IsWithinLimits, processes}
 use Rattle.room_spec.specs.Sizes.{sizes_in}
 use Rattle.sim_memory.proofs.CallerLemmas.{row_at, merged_at}
 use Rattle.simulator.specs.declared.goal.Goal.{Goal}
 use Rattle.simulator.specs.declared.goal.Goal.TheVariants as goals
 use Rattle.simulator.specs.Firsts.{IsVisited}
 use Rattle.simulator.specs.declared.line.Line.TheVariants.{Raise}
-use Rattle.simulator.specs.Turns.{after_write}
+use Rattle.simulator.specs.Turns.{asks_in, after_write}
 use Rattle.std.proofs.lemmas.List.FromFn.{get_or-map-range_with_len}
 use Rattle.simulator.specs.Minds.{first_goal, first_goals, goal_at, current_goal, current_round, is_unfinished, round_of}
 use Rattle.simulator.specs.Ranges.{IsMind}
@@ -24,11 +24,11 @@ use Rattle.room_core.specs.Agreements.{IsFixedAt, view_at}
 use Rattle.room_core.specs.Agreements as agreed
 use Rattle.room_core.specs.Tracks.{StandsFor}
 use Rattle.room_core.proofs.fields.Maps.{changed_here, changed_else}
-use Rattle.room_core.proofs.fields.Lines.{open_round}
 use Rattle.room_core.proofs.fields.FieldReplays.{stands_at}
-use Rattle.room_core.proofs.fields.Effects.{Own, own_of, IsTurn, Effect, stores, raises, collects_word, collects_again, scans, shows_word, shows, enters, looks, leaves, asks_in_vain, finds, loads_word, gathers, goes_to, will_decide, decides, line_effect}
+use Rattle.room_core.proofs.fields.Effects.{Own, own_of, IsTurn, Effect, stores, proposes, raises, collects_word, collects_again, scans, shows_word, shows, enters, looks, leaves, asks_in_vain, finds, gets_input, loads_word, gathers, goes_to, will_decide, decides, line_effect}
 use Rattle.room_core.proofs.fields.Prefixes.{over_schedule}
 use Rattle.room_core.proofs.agreements.Fixing.{fixed_has_least}
+use Rattle.room_core.proofs.agreements.Inputs.{ordinary_first, zero_kind}
 use Rattle.room_core.proofs.agreements.Exact.{room_moments}
 
 -- ---- what a simulator has counted
@@ -59,10 +59,12 @@ ended_counted n own after before sweep goal before_is goals_are steps_are counte
 later_goal : (goal : Goal) → is_unfinished goal ≡ true → 2 ≤ round_of goal → IsVisited goal
 later_goal (goals.Write k value) left two = two
 later_goal (goals.Ask k) left two = tt
+later_goal (goals.Propose value) left two = absurd (omega (arith, two))
+later_goal goals.AskInput left two = tt
 later_goal goals.Done left two = tt
 later_goal goals.Spent left two = tt
 
-module _ (spec : RoomSpec) (fields : Fields) (own : Own) (is_mind : IsMind spec (worded (sizes_in spec) own.mind)) (has : HasCounted (processes spec) own) where
+module _ (spec : RoomSpec) (fields : Fields) (own : Own) (is_mind : IsMind spec (worded (sizes_in spec) own.mind)) (ordinary : is_reduction spec ≡ false) (has : HasCounted (processes spec) own) where
   j : ℕ
   j = own.mind.process
 
@@ -96,6 +98,7 @@ module _ (spec : RoomSpec) (fields : Fields) (own : Own) (is_mind : IsMind spec 
 
   counts : (after : Own) → Effect spec fields own after → HasCounted (processes spec) after
   counts after (stores j k value rest goal count process first last) = same_counted (processes spec) own _ refl refl has
+  counts after (proposes j value rest goal none unentered within kind) = same_counted (processes spec) own _ refl refl has
   counts after (raises turn whole begun count) = raised turn count _ refl refl
   counts after (collects_word turn count none next) = same_counted (processes spec) own _ refl refl has
   counts after (collects_again turn count none last several goes) = same_counted (processes spec) own _ refl refl has
@@ -106,12 +109,13 @@ module _ (spec : RoomSpec) (fields : Fields) (own : Own) (is_mind : IsMind spec 
   counts after (looks turn count one) = same_counted (processes spec) own _ refl refl has
   counts after (leaves saw_two turn count one) = same_counted (processes spec) own _ refl refl has
   counts after (asks_in_vain asking asks none) =
-      ended_counted (processes spec) own _ asking.goals asking.process (goals.Ask (current_round asking)) asks.goals refl refl (let c = asks.count in let f = asks.first in omega (arith, c, f)) has
+      ended_counted (processes spec) own _ asking.goals asking.process (asks_in (current_round asking)) asks.goals refl refl (let c = asks.count in let f = ordinary_first spec (current_goal asking) ordinary asks.goal asks.left in omega (arith, c, f)) has
   counts after (finds asking chosen asks some) = same_counted (processes spec) own _ asks.goals refl has
+  counts after (gets_input chosen turn count less) = absurd (let wrong : true ≡ false = sym (zero_kind spec (current_goal own.mind) turn.goal turn.left turn.first) ∙ ordinary in cc)
   counts after (loads_word chosen turn below next) = same_counted (processes spec) own _ refl refl has
   counts after (gathers reading reads next) = same_counted (processes spec) own _ reads.goals refl has
   counts after (goes_to reading value reads all action) =
-      let first = (open_round spec own.mind is_mind reads.left).0 in
+      let first = reads.first in
       let count = reads.count in
       let place = reads.same in
       ended_counted (processes spec) own _ reading.goals reading.process (after_write spec.rounds (current_round reading) value) reads.goals refl refl (subst (λ (q : ℕ). 1 ≤ own.step q) (sym place) (omega (arith, count, first))) has
@@ -123,23 +127,23 @@ module _ (spec : RoomSpec) (fields : Fields) (own : Own) (is_mind : IsMind spec 
 -- ---- along a run
 
 abbrev pub AllCounted : RoomSpec → List ScheduleEvent → Fields → Type 0
-AllCounted spec schedule fields = (i : ℕ) → i < spec.simulators → HasCounted (processes spec) (own_of fields i)
+AllCounted spec schedule fields = is_reduction spec ≡ false → (i : ℕ) → i < spec.simulators → HasCounted (processes spec) (own_of fields i)
 
 counted_kept : (room : Configuration) (fields : Fields) (done : List ScheduleEvent) (event : ScheduleEvent) → IsShaped room → MayHappen room event → StandsFor room fields → AllCounted room.spec done fields → AllCounted room.spec (done ++ event ∷ []) (fields_after room.spec fields event)
-counted_kept room fields done (steps i) shape may for all a below =
+counted_kept room fields done (steps i) shape may for all ordinary a below =
     let effect = line_effect room fields i shape for may in
     let after = line room.spec fields i in
     dite (ℕ_discrete a i)
     (λ (e : a ≡ i).
     subst (λ (b : ℕ). HasCounted (processes room.spec) (own_of after b)) (sym e)
-    (counts room.spec fields (own_of fields i) (stands_at room fields i shape for may).is_mind (all i effect.below) (own_of after i) effect.own))
-    (λ (n : a ≢ i). subst (λ (own : Own). HasCounted (processes room.spec) own) (sym (effect.others a n)) (all a below))
-counted_kept room fields done (crashes i) shape may for all a below = let has = all a below in record { visited = has.visited; twice = has.twice }
+    (counts room.spec fields (own_of fields i) (stands_at room fields i shape for may).is_mind ordinary (all ordinary i effect.below) (own_of after i) effect.own))
+    (λ (n : a ≢ i). subst (λ (own : Own). HasCounted (processes room.spec) own) (sym (effect.others a n)) (all ordinary a below))
+counted_kept room fields done (crashes i) shape may for all ordinary a below = let has = all ordinary a below in record { visited = has.visited; twice = has.twice }
 
 -- no process is visited, and none counted, at first
 opening_counted : (spec : RoomSpec) → AllCounted spec [] (opening_fields spec)
-opening_counted spec i below = record {
-  visited = λ p within is. absurd (none p within is);
+opening_counted spec ordinary i below = record {
+  visited = λ p within is. absurd (none p within (subst (λ (b : Bool). IsVisited (goal_at (cond b (replicate (processes spec) (goals.Propose (slice_index spec.own i))) (first_goals spec)) p)) ordinary is));
   twice = λ j p within two. absurd (omega (arith, two));
 }
   where
@@ -152,7 +156,7 @@ opening_counted spec i below = record {
 pub counted_after : (spec : RoomSpec) → IsWithinLimits spec → (schedule : List ScheduleEvent) → IsLegal (opening spec) schedule → AllCounted spec schedule (replay_fields spec (opening_fields spec) schedule)
 counted_after spec limits schedule legal = over_schedule AllCounted counted_kept spec limits schedule legal (opening_counted spec)
 
-legal_take : (room : Configuration) (schedule : List ScheduleEvent) (time : ℕ) → IsLegal room schedule → IsLegal room (take time schedule)
+pub legal_take : (room : Configuration) (schedule : List ScheduleEvent) (time : ℕ) → IsLegal room schedule → IsLegal room (take time schedule)
 legal_take room [] zero legal = tt
 legal_take room [] (suc time) legal = tt
 legal_take room (event ∷ schedule) zero legal = tt
@@ -162,21 +166,21 @@ legal_take room (event ∷ schedule) (suc time) legal = (legal.0, legal_take (af
 
 module _ (room : RoomState) (fields : Fields) (limits : IsWithinLimits room.spec) (are : AreFieldsOf room fields) where
   -- each shows every process, by the proposer's own numbers
-  pub proposal_shows_all : (i j k p : ℕ) → i < room.spec.simulators → j < processes room.spec → p < processes room.spec → 2 ≤ k → fields.level i j k ≡ 2 → 1 ≤ fields.view i j k i p
-  proposal_shows_all i j k p below within within' two at =
+  pub proposal_shows_all : is_reduction room.spec ≡ false → (i j k p : ℕ) → i < room.spec.simulators → j < processes room.spec → p < processes room.spec → 2 ≤ k → fields.level i j k ≡ 2 → 1 ≤ fields.view i j k i p
+  proposal_shows_all ordinary i j k p below within within' two at =
       let moment = room_moments room fields limits are i j k below (omega (arith, two)) at in
       let then = counted_after room.spec limits (take moment.time are.run.schedule) (legal_take (opening room.spec) are.run.schedule moment.time are.run.legal) in
       let own = moment.own in
       let here = moment.same i j below within in
       let there = moment.same i p below within' in
-      let one = (then i below).twice j p within' (omega (arith, own, here, two)) in
+      let one = (then ordinary i below).twice j p within' (omega (arith, own, here, two)) in
       omega (arith, there, one)
 
-  pub fixed_shows_all : (j k p : ℕ) → j < processes room.spec → p < processes room.spec → 2 ≤ k → IsFixedAt room.spec fields j k → 1 ≤ slice_index (agreed.row_at room.spec fields j k) p
-  fixed_shows_all j k p within within' two fixed =
+  pub fixed_shows_all : is_reduction room.spec ≡ false → (j k p : ℕ) → j < processes room.spec → p < processes room.spec → 2 ≤ k → IsFixedAt room.spec fields j k → 1 ≤ slice_index (agreed.row_at room.spec fields j k) p
+  fixed_shows_all ordinary j k p within within' two fixed =
       let least = fixed_has_least room.spec fields j k fixed in
       let h = least.0 in
-      let shows = proposal_shows_all h j k p least.1 within within' two least.3 in
+      let shows = proposal_shows_all ordinary h j k p least.1 within within' two least.3 in
       let view : view_at room.spec fields j k ≡ fields.view h j k = ap (λ (o : Option ℕ). fields.view (unwrap_or o 0) j k) least.2 in
       let entry = row_at room.spec.simulators (processes room.spec) (view_at room.spec fields j k) p within' in
       let most = merged_at room.spec.simulators (view_at room.spec fields j k) h p least.1 in

@@ -1,5 +1,5 @@
 -- As a schedule goes on, what took effect still does, at the same step.
-use Rattle.std.proofs.Common.{◌≡◌, ◌≢◌, ℕ, zero, suc, ◌+◌, ◌<◌, ◌≤◌, Bool, true, false, cond, List, [], ◌∷◌, ◌++◌, length, take, Option, Some, None, inl, inr, refl, sym, ap, ◌∙◌, subst, arith}
+use Rattle.std.proofs.Common.{◌≡◌, ◌≢◌, ℕ, zero, suc, ◌+◌, ◌<◌, ◌≤◌, Bool, true, cond, List, ◌++◌, length, Option, Some, inl, inr, sym, ap, ◌∙◌, subst, arith}
 use Rattle.std.specs.Prelude.{◌&&◌, slice_get, unwrap_or}
 use Rattle.std.proofs.lemmas.Bool.{cases_Bool, cases_eq}
 use Rattle.std.proofs.lemmas.List.{take-append-le, length-append}
@@ -9,11 +9,10 @@ use Rattle.room_core.specs.Calls.{RoomState}
 use Rattle.room_core.specs.Fields.{Fields, opening_fields, replay_fields}
 use Rattle.room_core.specs.Reading.{AreFieldsOf}
 use Rattle.room_core.specs.Moments.{fields_at}
-use Rattle.room_core.specs.Agreements.{AgreementsStay, IsFixedAt, asks, decided_in, greatest_step, is_fixed, is_passed, shown_of, view_at}
+use Rattle.room_core.specs.Agreements.{AgreementsStay, IsFixedAt, agreed_input, asks, decided_in, greatest_step, is_fixed, is_passed, shown_of, view_at}
 use Rattle.room_core.specs.Points.{Point, HasFixed, TakesEffect, write_counted, snapshot_read, decision_stored, is_step_of, last_when, read_time, reads_at, reads_in}
 use Rattle.room_core.proofs.agreements.FixedTests.{fixed_back, fixed_of, test_of}
 use Rattle.room_core.proofs.agreements.Lasting.{decided_out, out_decided}
-use Rattle.room_core.proofs.agreements.Promises.{passed_fixed}
 use Rattle.room_core.proofs.fields.FieldCalls.{leads_of, with_quiet}
 use Rattle.room_core.proofs.moments.Moments.{at_end}
 use Rattle.room_core.proofs.points.LastReads.{last_same, slice_get-append}
@@ -88,6 +87,9 @@ module _ (room : RoomState) (fields : Fields) (limits : IsWithinLimits room.spec
   pub asks_same : (j k : ℕ) → 1 ≤ k → is_fixed room.spec Then j k ≡ true → asks room.spec fields j k ≡ asks room.spec Then j k
   asks_same j k first at = subst (λ (f : Fields). asks room.spec f j k ≡ asks room.spec Then j k) (sym same) (lasting.agreed.asks j k first (fixed_of room.spec Then j k at))
 
+  pub inputs_same : (j input : ℕ) → j < processes room.spec → agreed_input room.spec Then j ≡ Some input → agreed_input room.spec fields j ≡ Some input
+  inputs_same j input low at = subst (λ (f : Fields). agreed_input room.spec f j ≡ Some input) (sym same) (lasting.agreed.input j input low at)
+
   pub decided_stays : (j decision : ℕ) → j < processes room.spec → decided_in room.spec Then j ≡ Some decision → decided_in room.spec fields j ≡ Some decision
   decided_stays j decision low at =
       let out = decided_out room.spec Then j decision at in
@@ -149,6 +151,7 @@ pub record GoesOn (spec : RoomSpec) (before after : Fields) : Type 0 where
   pub view : (p r : ℕ) → 1 ≤ r → is_fixed spec before p r ≡ true → view_at spec after p r ≡ view_at spec before p r
   pub asks : (p r : ℕ) → 1 ≤ r → is_fixed spec before p r ≡ true → asks spec after p r ≡ asks spec before p r
   pub decided : (p decision : ℕ) → p < processes spec → decided_in spec before p ≡ Some decision → decided_in spec after p ≡ Some decision
+  pub inputs : (p input : ℕ) → p < processes spec → agreed_input spec before p ≡ Some input → agreed_input spec after p ≡ Some input
 
 pub goes_on : (room later : RoomState) (fields final : Fields) → IsWithinLimits room.spec → (are : AreFieldsOf room fields) → (ares : AreFieldsOf later final) → room.spec ≡ later.spec → (more : List ScheduleEvent) → ares.run.schedule ≡ are.run.schedule ++ more → GoesOn later.spec fields final
 goes_on room later fields final limits are ares same more is =
@@ -161,4 +164,5 @@ goes_on room later fields final limits are ares same more is =
       view = λ p r first at. view_same later final limits' ares short more is p r first at;
       asks = λ p r first at. asks_same later final limits' ares short more is p r first at;
       decided = λ p decision low at. decided_stays later final limits' ares short more is p decision low at;
+      inputs = λ p input low at. inputs_same later final limits' ares short more is p input low at;
     })

@@ -1,5 +1,5 @@
 -- The operations of a process follow one another.
-use Rattle.std.proofs.Common.{◌≡◌, ◌≢◌, ◌⊎◌, ℕ, ◌+◌, ◌-◌, ◌<◌, ◌≤◌, true, inl, inr, sym, ap, ◌∙◌, subst, arith}
+use Rattle.std.proofs.Common.{◌≡◌, ◌⊎◌, ℕ, ◌+◌, ◌-◌, ◌<◌, ◌≤◌, inl, inr, sym, ap, ◌∙◌, subst, arith}
 use Rattle.room_spec.specs.Rooms.{IsWithinLimits, processes}
 use Rattle.simulator.specs.declared.line.Line.{Line}
 use Rattle.simulator.specs.declared.goal.Goal.TheVariants as goals
@@ -7,7 +7,7 @@ use Rattle.simulator.specs.Minds.{current_goal, goal_at}
 use Rattle.room_core.specs.Calls.{RoomState}
 use Rattle.room_core.specs.Fields.{Fields}
 use Rattle.room_core.specs.Reading.{AreFieldsOf}
-use Rattle.room_core.specs.Agreements.{IsFixedAt, greatest_step, has_out}
+use Rattle.room_core.specs.Agreements.{IsFixedAt, greatest_step}
 use Rattle.room_core.specs.Contents.{IsDue, first_write, next_write}
 use Rattle.room_core.specs.Points.{Writes, Snaps, Decides}
 use Rattle.room_core.specs.RealTime.{HasBegun, HasEnded, IsCounting}

@@ -6,7 +6,7 @@ use Rattle.std.proofs.lemmas.List.{take-append-le, take_all}
 use Rattle.room_spec.specs.Rooms.{RoomSpec, processes}
 use Rattle.sim_memory.specs.Steps.{AreSameSteps}
 use Rattle.simulator.specs.declared.line.Line.{Line}
-use Rattle.simulator.specs.declared.line.Line.TheVariants.{Rest, Raise, Snap, Show, Enter, Look, Leave, Ask, GetView, Values, Out}
+use Rattle.simulator.specs.declared.line.Line.TheVariants.{Rest, Raise, Snap, Show, Enter, Look, Leave, Ask, GetInput, GetView, Values, Out}
 use Rattle.simulator.specs.Minds.{current_round}
 use Rattle.simulator.specs.Turns.{words_in}
 use Rattle.room_core.specs.Rooms.{ScheduleEvent, steps, crashes}
@@ -37,6 +37,7 @@ snap_is Enter is = absurd cc
 snap_is Look is = absurd cc
 snap_is (Leave saw_two) is = absurd cc
 snap_is Ask is = absurd cc
+snap_is (GetInput chosen) is = absurd cc
 snap_is (GetView chosen) is = absurd cc
 snap_is Values is = absurd cc
 snap_is (Out decision) is = absurd cc

@@ -64,7 +64,7 @@ module _ (room : RoomState) (fields : Fields) (limits : IsWithinLimits room.spec
   tracks = (stands_for (configuration_of room) limits are.run).tracks
 
   known : IsKnown room.spec (replay_fields room.spec (opening_fields room.spec) are.run.schedule)
-  known = (all.0).2 (small_values room.spec limits)
+  known = (all.0).3 (small_values room.spec limits)
 
   passed_in_base : (j k : ℕ) → HasFixed room.spec fields j k → IsFixedIn (processes room.spec) room.spec.rounds (is_fixed room.spec (replay_fields room.spec (opening_fields room.spec) are.run.schedule)) j k
   passed_in_base j k passed = record { process = passed.process; first = passed.first; last = passed.last; is = subst (λ (f : Fields). is_fixed room.spec f j k ≡ true) same (test_of room.spec fields j k passed.is) }

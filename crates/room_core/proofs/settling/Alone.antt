@@ -2,9 +2,11 @@
 use Rattle.std.proofs.Common.{◌≡◌, ◌≢◌, ℕ, zero, suc, ◌+◌, ◌*◌, ◌-◌, ◌<◌, ◌≤◌, Bool, true, false, not, cond, length, refl, sym, ap, ◌∙◌, subst, arith}
 use Rattle.std.proofs.lemmas.Bool.{cond_both, not-true}
 use Rattle.std.proofs.lemmas.List.{get_or-set_same}
+use Rattle.room_spec.specs.Sizes.{sizes_in}
 use Rattle.room_spec.specs.Rooms.{RoomSpec, IsWithinLimits, processes}
+use Rattle.simulator.specs.Bounds.{agreement_rounds}
 use Rattle.simulator.specs.declared.line.Line.{Line}
-use Rattle.simulator.specs.declared.line.Line.TheVariants.{Rest, Raise, Snap, Show, Enter, Look, Leave, Ask, GetView, Values, Out}
+use Rattle.simulator.specs.declared.line.Line.TheVariants.{Rest, Raise, Snap, Show, Enter, Look, Leave, Ask, GetInput, GetView, Values, Out}
 use Rattle.simulator.specs.declared.sweep.Ready.{Ready}
 use Rattle.simulator.specs.declared.sweep.Ready.TheVariants as ready
 use Rattle.simulator.specs.Minds.{MindState}
@@ -34,6 +36,7 @@ within_by Enter spec taken turn_steps word collects entries charged is few most 
 within_by Look spec taken turn_steps word collects entries charged is few most = omega arith
 within_by (Leave saw_two) spec taken turn_steps word collects entries charged is few most = omega arith
 within_by Ask spec taken turn_steps word collects entries charged is few most = omega arith
+within_by (GetInput chosen) spec taken turn_steps word collects entries charged is few most = omega arith
 within_by (GetView chosen) spec taken turn_steps word collects entries charged is few most = omega arith
 within_by Values spec taken turn_steps word collects entries charged is few most = omega arith
 within_by (Out decision) spec taken turn_steps word collects entries charged is few most = omega arith
@@ -140,7 +143,7 @@ module _ (test : RoomState → ℕ → Bool) (i : ℕ) (means : Means test i) wh
       subst (λ (r : RoomState). total_in room.spec (Ran test i means most r) ≤ total_in room.spec room) (sym next.is) (omega (arith, here, more)))
       (λ is. omega arith)
 
-  pub turns_ran : (most : ℕ) (room : RoomState) → IsUp room i → (sweep_at (Ran test i means most room) i).mind.turns ≤ (sweep_at room i).mind.turns + (processes room.spec * room.spec.rounds + 1) * processes room.spec
+  pub turns_ran : (most : ℕ) (room : RoomState) → IsUp room i → (sweep_at (Ran test i means most room) i).mind.turns ≤ (sweep_at room i).mind.turns + (processes room.spec * agreement_rounds (sizes_in room.spec) + 1) * processes room.spec
   turns_ran most room up =
       let end = sweep_at (Ran test i means most room) i in
       omega (arith, turns_before (processes room.spec) room.spec.rounds end.mind end.quiet, total_ran most room up, total_most room.spec (sweep_at room i).mind (sweep_at room i).quiet (mind_ok room i up.shape up.below))

@@ -1,5 +1,5 @@
 -- A simulator that runs alone: the agreements for which it has asked in vain stay unresolved.
-use Rattle.std.proofs.Common.{◌≡◌, ◌≢◌, ℕ, ◌+◌, ◌<◌, ◌≤◌, min, Bool, true, false, cond, ltb, List, [], ◌∷◌, ◌++◌, length, map, slice_index, Option, Some, None, refl, sym, ap, ◌∙◌, subst, arith}
+use Rattle.std.proofs.Common.{◌≡◌, ◌≢◌, ℕ, ◌+◌, ◌<◌, ◌≤◌, min, Bool, true, false, cond, ltb, List, [], ◌∷◌, ◌++◌, length, map, Option, Some, None, refl, sym, ap, ◌∙◌, subst, arith}
 use Rattle.std.specs.List.{range_with_len}
 use Rattle.protocol_lang.specs.declared.meaning.Action.{Action}
 use Rattle.protocol_lang.specs.declared.meaning.Action.TheVariants as actions
@@ -10,10 +10,10 @@ use Rattle.safe_agreement.specs.Levels.{left_level, resolved_of}
 use Rattle.simulator.specs.declared.goal.Goal.{Goal}
 use Rattle.simulator.specs.declared.goal.Goal.TheVariants as goals
 use Rattle.simulator.specs.declared.line.Line.{Line}
-use Rattle.simulator.specs.declared.line.Line.TheVariants.{Rest, Raise, Snap, Show, Enter, Look, Leave, Ask, GetView, Values, Out}
-use Rattle.simulator.specs.Minds.{MindOf, goal_at, current_goal, current_round, is_unfinished, round_of, next_process}
+use Rattle.simulator.specs.declared.line.Line.TheVariants.{Rest, Raise, Snap, Show, Enter, Look, Leave, Ask, GetInput, GetView, Values, Out}
+use Rattle.simulator.specs.Minds.{MindOf, goal_at, current_goal, current_input, current_round, is_unfinished, round_of, next_process}
 use Rattle.simulator.specs.Sweeps.{quiet_after}
-use Rattle.simulator.specs.Turns.{TakenOf, counted, begun, goes_on, acted, decided, padded, gathered_all, gathered, opened_at}
+use Rattle.simulator.specs.Turns.{TakenOf, counted, begun, goes_on, acted, decided, got_input, padded, gathered_all, gathered, opened_at}
 use Rattle.simulator.proofs.CallerLemmas.{next_is_left}
 use Rattle.room_core.specs.Fields.{StepMap, Fields, changed_triple, chosen_at, entry_of_steps, shown_value}
 use Rattle.room_core.specs.Tracks.{Counts, Counted, Inside}
@@ -22,7 +22,7 @@ use Rattle.room_core.proofs.fields.Wording.{got_view_by, showed_by, snapped_by}
 use Rattle.room_core.proofs.fields.Lines.{stored_first_at, stored_first, stored_on, taken_first_at, taken_first, taken_on, StandsAt}
 use Rattle.room_core.proofs.fields.Maps.{triple_else}
 use Rattle.room_core.proofs.settling.Marks.{same_marks, IsBlockedCount, blocked_anew, blocked_begun, blocked_asked}
-use Rattle.simulator.specs.Quiet.{AreAsksAtTheEnd, unfinished_from}
+use Rattle.simulator.specs.Quiet.{AreAsksAtTheEnd, IsAsk, unfinished_from}
 
 abbrev pub is_nothing : Option ℕ → Bool
 is_nothing None = true
@@ -49,7 +49,7 @@ module _ (spec : RoomSpec) (fields : Fields) (quiet : ℕ) where
 
   on_gathered_all : (mind : MindOf StepMap) → Counting mind → CountsOn spec fields (gathered_all spec mind) quiet
   on_gathered_all mind counts =
-      let action = next_action spec.protocol (slice_index spec.inputs mind.process) mind.process (current_round mind) mind.entries in
+      let action = next_action spec.protocol (current_input spec mind) mind.process (current_round mind) mind.entries in
       on_test (ltb (length mind.entries) (processes spec)) (goes_on Values mind) (acted spec action mind) counts (on_acted action mind counts)
 
   on_gathered : (row : ℕ → ℕ) (entries : List (Option ℕ)) (mind : MindOf StepMap) → Counting mind → CountsOn spec fields (gathered row spec entries mind) quiet
@@ -66,6 +66,12 @@ module _ (spec : RoomSpec) (fields : Fields) (quiet : ℕ) where
       subst (λ (g : Goal). CountsOn spec fields (opened_at g (chosen_at spec fields j k) (begun j mind)) quiet) (sym is)
       (subst (λ (r : ℕ). CountsOn spec fields (opened_at (goals.Ask k) (chosen_at spec fields j r) (begun j mind)) quiet) (ap round_of is)
       (on_asked (begun j mind) place (ap is_unfinished is) (blocked_begun (unresolved spec fields) j mind quiet found counts)))
+  on_first_at (goals.Propose value) j mind is found place counts =
+      subst (λ (g : Goal). CountsOn spec fields (opened_at g None (begun j mind)) quiet) (sym is) (blocked_begun (unresolved spec fields) j mind quiet found counts)
+  on_first_at goals.AskInput j mind is found place counts =
+      subst (λ (g : Goal). CountsOn spec fields (opened_at g (chosen_at spec fields j 0) (begun j mind)) quiet) (sym is)
+      (subst (λ (r : ℕ). CountsOn spec fields (opened_at goals.AskInput (chosen_at spec fields j r) (begun j mind)) quiet) (ap round_of is)
+      (on_asked (begun j mind) place (ap is_unfinished is) (blocked_begun (unresolved spec fields) j mind quiet found counts)))
   on_first_at goals.Done j mind is found place counts = counts
   on_first_at goals.Spent j mind is found place counts = counts
 
@@ -79,6 +85,8 @@ module _ (spec : RoomSpec) (fields : Fields) (quiet : ℕ) where
   on_stored : (goal : Goal) (i j : ℕ) (taken : TakenOf StepMap) → CountsOn spec fields taken quiet → CountsOn spec (stored_first_at goal fields i j) taken quiet
   on_stored (goals.Write k value) i j taken counts = counts
   on_stored (goals.Ask k) i j taken counts = counts
+  on_stored (goals.Propose value) i j taken counts = counts
+  on_stored goals.AskInput i j taken counts = counts
   on_stored goals.Done i j taken counts = counts
   on_stored goals.Spent i j taken counts = counts
 
@@ -93,25 +101,29 @@ level_else spec fields i j k entry s r other =
     let same : (a : ℕ) → fields.level a s r ≡ changed_triple fields.level i j k entry a s r = λ a. sym (triple_else fields.level i j k entry a s r (λ e h g. other h)) in
     λ t. is_nothing (resolved_of (map (λ a. same a t) (range_with_len 0 spec.simulators)))
 
-no_ask : (rounds : ℕ) (goal : Goal) (step round : ℕ) → Counts rounds goal Counted step → goal ≢ goals.Ask round
-no_ask rounds (goals.Write k value) step round told is = cc
-no_ask rounds (goals.Ask k) step round told is = told
-no_ask rounds goals.Done step round told is = cc
-no_ask rounds goals.Spent step round told is = cc
+no_ask : (rounds : ℕ) (goal : Goal) (step : ℕ) → Counts rounds goal Counted step → IsAsk goal → ⊥
+no_ask rounds (goals.Write k value) step told is = is
+no_ask rounds (goals.Ask k) step told is = told
+no_ask rounds (goals.Propose value) step told is = is
+no_ask rounds goals.AskInput step told is = told
+no_ask rounds goals.Done step told is = is
+no_ask rounds goals.Spent step told is = is
 
-no_ask_inside : (rounds : ℕ) (goal : Goal) (step round : ℕ) → Counts rounds goal Inside step → goal ≢ goals.Ask round
-no_ask_inside rounds (goals.Write k value) step round told is = cc
-no_ask_inside rounds (goals.Ask k) step round told is = told
-no_ask_inside rounds goals.Done step round told is = cc
-no_ask_inside rounds goals.Spent step round told is = cc
+no_ask_inside : (rounds : ℕ) (goal : Goal) (step : ℕ) → Counts rounds goal Inside step → IsAsk goal → ⊥
+no_ask_inside rounds (goals.Write k value) step told is = is
+no_ask_inside rounds (goals.Ask k) step told is = told
+no_ask_inside rounds (goals.Propose value) step told is = is
+no_ask_inside rounds goals.AskInput step told is = told
+no_ask_inside rounds goals.Done step told is = is
+no_ask_inside rounds goals.Spent step told is = is
 
-with_level : (spec : RoomSpec) (fields : Fields) (i k entry quiet : ℕ) (mind : MindOf StepMap) → ((round : ℕ) → current_goal mind ≢ goals.Ask round) → IsBlockedCount (unresolved spec fields) mind quiet
+with_level : (spec : RoomSpec) (fields : Fields) (i k entry quiet : ℕ) (mind : MindOf StepMap) → (IsAsk (current_goal mind) → ⊥) → IsBlockedCount (unresolved spec fields) mind quiet
     → IsBlockedCount (unresolved spec (record fields { level = changed_triple fields.level i mind.process k entry })) mind quiet
 with_level spec fields i k entry quiet mind other counts =
     let after = record fields { level = changed_triple fields.level i mind.process k entry } in
     subst (λ (l : List Goal). AreAsksAtTheEnd (unfinished_from l mind.process) quiet)
-    (same_marks (unresolved spec fields) (unresolved spec after) 0 mind.goals (λ s round is.
-    level_else spec fields i mind.process k entry (0 + s) round (λ e. other round (ap (goal_at mind.goals) (sym e ∙ (let zero_is : 0 + s ≡ s = omega arith in zero_is)) ∙ is)))) counts
+    (same_marks (unresolved spec fields) (unresolved spec after) 0 mind.goals (λ s is.
+    level_else spec fields i mind.process k entry (0 + s) (round_of (goal_at mind.goals s)) (λ e. other (subst (λ (q : ℕ). IsAsk (goal_at mind.goals q)) (let zero_is : 0 + s ≡ s = omega arith in sym zero_is ∙ e) is)))) counts
 
 module _ (spec : RoomSpec) (fields : Fields) (i : ℕ) where
   abbrev Counted_ : Line → Type 0
@@ -130,11 +142,12 @@ module _ (spec : RoomSpec) (fields : Fields) (i : ℕ) where
       snapped_by (λ (taken : TakenOf StepMap). CountsOn spec fields taken (fields.quiet i)) spec into (is_same_collect spec into) counts counts counts counts
   on_line Show at counts = showed_by (λ (taken : TakenOf StepMap). CountsOn spec (stored_on Show spec fields i (fields.mind i).process (current_round (fields.mind i)) (counted (fields.mind i))) taken (fields.quiet i)) spec (counted (fields.mind i)) counts counts
   on_line Enter at counts =
-      with_level spec fields i (current_round (fields.mind i)) (fields.level i (fields.mind i).process (current_round (fields.mind i)) + 1) (fields.quiet i) (fields.mind i) (λ round. no_ask spec.rounds (current_goal (fields.mind i)) (fields.step i (fields.mind i).process) round at.own.counts) counts
+      with_level spec fields i (current_round (fields.mind i)) (fields.level i (fields.mind i).process (current_round (fields.mind i)) + 1) (fields.quiet i) (fields.mind i) (no_ask spec.rounds (current_goal (fields.mind i)) (fields.step i (fields.mind i).process) at.own.counts) counts
   on_line Look at counts = counts
   on_line (Leave saw_two) at counts =
-      with_level spec fields i (current_round (fields.mind i)) (left_level saw_two) (fields.quiet i) (fields.mind i) (λ round. no_ask_inside spec.rounds (current_goal (fields.mind i)) (fields.step i (fields.mind i).process) round at.own.counts) counts
+      with_level spec fields i (current_round (fields.mind i)) (left_level saw_two) (fields.quiet i) (fields.mind i) (no_ask_inside spec.rounds (current_goal (fields.mind i)) (fields.step i (fields.mind i).process) at.own.counts) counts
   on_line Ask at counts = on_asked spec fields (fields.quiet i) (counted (fields.mind i)) (let s = at.is_mind.process in let n = at.is_mind.goals in omega arith) at.open_at counts
+  on_line (GetInput chosen) at counts = blocked_anew {S = StepMap} (unresolved spec fields) (got_input spec (fields.value chosen (fields.mind i).process 0) (counted (fields.mind i))).mind
   on_line (GetView chosen) at counts =
       let mind = fields.mind i in
       let into = with_loaded spec (fields.view chosen mind.process (current_round mind)) (counted mind) in

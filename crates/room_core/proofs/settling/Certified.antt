@@ -1,16 +1,16 @@
 -- Rooms of a protocol by which a process waits for all but f: with two rounds or more no process is spent, since what was agreed on in a
 -- later round shows all.
-use Rattle.std.proofs.Common.{◌≡◌, ℕ, zero, suc, ◌+◌, ◌<◌, ◌≤◌, ◌&&◌, ◌||◌, Bool, true, false, eqb, ltb, map, ◌∷◌, length, Option, Some, None, refl, sym, ap, ◌∙◌, subst, arith}
+use Rattle.std.proofs.Common.{◌≡◌, ℕ, zero, suc, ◌+◌, ◌<◌, ◌≤◌, ◌&&◌, ◌||◌, Bool, true, false, eqb, ltb, map, ◌∷◌, length, Option, Some, refl, sym, ap, ◌∙◌, subst, arith}
 use Rattle.std.specs.Prelude.{slice_index}
 use Rattle.std.specs.List.{range_with_len}
 use Rattle.protocol_lang.specs.Meaning.{present}
 use Rattle.protocol_lang.specs.declared.meaning.Action.TheVariants as actions
-use Rattle.room_spec.specs.Rooms.{IsCertified, RoomSpec, IsWithinLimits, processes}
+use Rattle.room_spec.specs.Rooms.{IsCertified, RoomSpec, IsWithinLimits, is_reduction, processes}
 use Rattle.room_core.specs.Agreements.{IsFixedAt, asks, greatest_step, has_out, is_clean, is_passed, row_at, shown}
 use Rattle.room_core.specs.Calls.{RoomState}
 use Rattle.room_core.specs.Fields.{Fields, fields_after_settle}
 use Rattle.room_core.specs.Reading.{AreFieldsOf}
-use Rattle.room_core.specs.Settled.{HasTurnLeft, IsSettledFor, decided, spent, held, IsDecidedOrHeld, has_decided, is_held}
+use Rattle.room_core.specs.Settled.{HasTurnLeft, IsSettledFor, decided, spent, held, held_input, IsDecidedOrHeld, has_decided, is_held}
 use Rattle.room_core.proofs.agreements.Promises.{passed_fixed}
 use Rattle.room_core.proofs.moments.Visits.{fixed_shows_all}
 use Rattle.room_core.proofs.settling.Ending.{settled_for}
@@ -26,17 +26,17 @@ all_present entries a (suc n) each =
     let rest = all_present entries (a + 1) n (λ p low high. each p (omega arith) (omega arith)) in
     ap (λ (e : Option ℕ). length (present (e ∷ map entries (range_with_len (a + 1) n)))) first.1 ∙ ap suc rest
 
-passed_by : (a b c : Bool) → a ≡ true → (a || b || c) ≡ true
+pub passed_by : (a b c : Bool) → a ≡ true → (a || b || c) ≡ true
 passed_by true b c is = refl
 passed_by false b c is = absurd cc
 
-module _ (room : RoomState) (fields : Fields) (limits : IsWithinLimits room.spec) (are : AreFieldsOf room fields) (f : ℕ) (certified : IsCertified room.spec f) where
+module _ (room : RoomState) (fields : Fields) (limits : IsWithinLimits room.spec) (are : AreFieldsOf room fields) (f : ℕ) (certified : IsCertified room.spec f) (ordinary : is_reduction room.spec ≡ false) where
   -- so the protocol asks for no write after it
   pub asks_no_write : (j k v : ℕ) → j < processes room.spec → 2 ≤ k → IsFixedAt room.spec fields j k → asks room.spec fields j k ≡ actions.Write v → ⊥
   asks_no_write j k v within two fixed is =
       let row = row_at room.spec fields j k in
       let n = processes room.spec in
-      let count = all_present (λ p. shown room.spec fields p (slice_index row p)) 0 n (λ p low high. shown_there room.spec fields p (slice_index row p) (fixed_shows_all room fields limits are j k p within (omega (arith, high)) two fixed)) in
+      let count = all_present (λ p. shown room.spec fields p (slice_index row p)) 0 n (λ p low high. shown_there room.spec fields p (slice_index row p) (fixed_shows_all room fields limits are ordinary j k p within (omega (arith, high)) two fixed)) in
       let few = few_present room fields limits are f certified j k v is in
       absurd (omega (arith, count, few))
 
@@ -51,16 +51,17 @@ module _ (room : RoomState) (fields : Fields) (limits : IsWithinLimits room.spec
   decided_or_held j two within (decided out) = has_decided out
   decided_or_held j two within (spent v clean is) = absurd (never_spent j v two within clean is)
   decided_or_held j two within (held i k below crashed first last one) = is_held i k below crashed first last one
+  decided_or_held j two within (held_input i kind below crashed one) = absurd (let wrong : true ≡ false = sym kind ∙ ordinary in cc)
 
 -- So of each process once the room has settled.
-pub certified_for : (room : RoomState) (fields : Fields) → IsWithinLimits room.spec → AreFieldsOf room fields → (f : ℕ) → IsCertified room.spec f → 2 ≤ room.spec.rounds → HasTurnLeft room.spec (fields_after_settle room.spec fields) → (j : ℕ) → j < processes room.spec
+pub certified_for : (room : RoomState) (fields : Fields) → IsWithinLimits room.spec → AreFieldsOf room fields → (f : ℕ) → IsCertified room.spec f → is_reduction room.spec ≡ false → 2 ≤ room.spec.rounds → HasTurnLeft room.spec (fields_after_settle room.spec fields) → (j : ℕ) → j < processes room.spec
     → IsDecidedOrHeld room.spec (fields_after_settle room.spec fields) j
-certified_for room fields limits are f certified two left j low =
+certified_for room fields limits are f certified ordinary two left j low =
     let spec = room.spec in
     let after = fields_after_settle spec fields in
     let has = settled_over spec limits room fields refl are in
     let back = sym has.is.same in
     let settled : IsSettledFor spec after j = settled_for room fields limits are left j low in
     subst (λ (s : RoomSpec). IsDecidedOrHeld s after j) has.is.same
-    (decided_or_held has.room after (subst IsWithinLimits back limits) has.is.are f (subst (λ (s : RoomSpec). IsCertified s f) back certified) j
+    (decided_or_held has.room after (subst IsWithinLimits back limits) has.is.are f (subst (λ (s : RoomSpec). IsCertified s f) back certified) (subst (λ (s : RoomSpec). is_reduction s ≡ false) back ordinary) j
     (subst (λ (s : RoomSpec). 2 ≤ s.rounds) back two) (subst (λ (s : RoomSpec). j < processes s) back low) (subst (λ (s : RoomSpec). IsSettledFor s after j) back settled))

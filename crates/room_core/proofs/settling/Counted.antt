@@ -1,5 +1,5 @@
 -- How many numbers of a range pass a test.
-use Rattle.std.proofs.Common.{◌≡◌, ◌≢◌, ◌⊎◌, ℕ, zero, suc, ◌+◌, ◌<◌, ◌≤◌, ◌||◌, Bool, true, false, cond, eqb, map, List, [], ◌∷◌, length, Option, Some, None, inl, inr, refl, sym, ap, ◌∙◌, subst, arith}
+use Rattle.std.proofs.Common.{◌≡◌, ◌≢◌, ◌⊎◌, ℕ, zero, suc, ◌+◌, ◌<◌, ◌≤◌, Bool, true, false, cond, eqb, map, List, [], ◌∷◌, length, Option, Some, None, inl, inr, refl, sym, ap, ◌∙◌, subst, arith}
 use Rattle.std.specs.List.{range_with_len, list_any, filter, IsDistinct, AllByRecursion}
 use Rattle.std.proofs.lemmas.Bool.{and_parts, or_cases, or_left, or_right, eq-eqb, eqb-true, ne_eqb}
 use Rattle.std.proofs.lemmas.Cmp.{nat_eq_equiv}
@@ -116,3 +116,26 @@ pub entries_of_all : (entries : ℕ → Option ℕ) (p : ℕ → Bool) (a n : �
 entries_of_all entries p a zero some = omega arith
 entries_of_all entries p a (suc n) some =
     present_more (p a) (entries a) a (filter p (range_with_len (a + 1) n)) (map entries (range_with_len (a + 1) n)) (some a (omega arith) (omega arith)) (entries_of_all entries p (a + 1) n (λ j low high. some j (omega arith) (omega arith)))
+
+-- if one of a range fails, fewer than all pass
+kept_most : (b : Bool) (x : ℕ) (list : List ℕ) (n : ℕ) → length list ≤ n → length (cond b (x ∷ list) list) ≤ suc n
+kept_most true x list n most = omega (arith, most)
+kept_most false x list n most = omega (arith, most)
+
+kept_less : (b : Bool) (x : ℕ) (list : List ℕ) (n : ℕ) → length list < n → length (cond b (x ∷ list) list) < suc n
+kept_less true x list n less = omega (arith, less)
+kept_less false x list n less = omega (arith, less)
+
+left_out : (b : Bool) (x : ℕ) (list : List ℕ) (n : ℕ) → b ≡ false → length list ≤ n → length (cond b (x ∷ list) list) < suc n
+left_out true x list n fails most = absurd (let wrong : true ≡ false = fails in cc)
+left_out false x list n fails most = omega (arith, most)
+
+most_all : (q : ℕ → Bool) (a n : ℕ) → length (filter q (range_with_len a n)) ≤ n
+most_all q a zero = omega arith
+most_all q a (suc n) = kept_most (q a) a (filter q (range_with_len (a + 1) n)) n (most_all q (a + 1) n)
+
+pub one_fails : (q : ℕ → Bool) (a n i : ℕ) → a ≤ i → i < a + n → q i ≡ false → length (filter q (range_with_len a n)) < n
+one_fails q a zero i low high fails = absurd (omega (arith, low, high))
+one_fails q a (suc n) i low high fails = dite (ℕ_discrete i a)
+    (λ (e : i ≡ a). left_out (q a) a (filter q (range_with_len (a + 1) n)) n (subst (λ (x : ℕ). q x ≡ false) e fails) (most_all q (a + 1) n))
+    (λ (other : i ≢ a). kept_less (q a) a (filter q (range_with_len (a + 1) n)) n (one_fails q (a + 1) n i (omega (arith, low, other)) (omega (arith, high)) fails))

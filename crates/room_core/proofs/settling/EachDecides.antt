@@ -1,5 +1,5 @@
 -- What becomes of each simulator's own decision once a room has settled.
-use Rattle.std.proofs.Common.{◌≡◌, ◌≢◌, ◌⊎◌, ℕ, ◌+◌, ◌<◌, ◌≤◌, Bool, true, false, List, length, Option, Some, None, inl, inr, refl, sym, ap, ◌∙◌, subst, arith}
+use Rattle.std.proofs.Common.{◌≡◌, ◌≢◌, ◌⊎◌, ℕ, ◌+◌, ◌<◌, ◌≤◌, Bool, true, false, length, Option, Some, None, inl, inr, refl, sym, ap, ◌∙◌, subst, arith}
 use Rattle.room_spec.specs.Rooms.{IsCertified, RoomSpec, IsWithinLimits, processes}
 use Rattle.simulator.specs.declared.goal.Goal.TheVariants as goals
 use Rattle.simulator.specs.Minds.{goal_at, is_unfinished}
@@ -7,11 +7,11 @@ use Rattle.simulator.specs.Ranges.{HasDecision}
 use Rattle.room_core.specs.Calls.{RoomState}
 use Rattle.room_core.specs.Fields.{Fields, decision_in, fields_after_settle}
 use Rattle.room_core.specs.Reading.{AreFieldsOf}
-use Rattle.room_core.specs.Settled.{HasTurnLeft, IsSettledInMind, crashed_in, is_out_of_rounds, mind_decided, mind_spent, mind_waits, unfinished_for}
+use Rattle.room_core.specs.Settled.{HasTurnLeft, IsSettledInMind, crashed_in, is_out_of_rounds, mind_decided, mind_spent, mind_waits, mind_waits_for_input, unfinished_for}
 use Rattle.room_core.proofs.agreements.Stages.{one_inside}
 use Rattle.room_core.proofs.fields.FieldCalls.{fields_stand}
 use Rattle.room_core.proofs.settling.Decisions.{mind_ranges}
-use Rattle.room_core.proofs.settling.Counted.{all_pass, no_more_pass, passes_too}
+use Rattle.room_core.proofs.settling.Counted.{all_pass, no_more_pass, one_fails}
 use Rattle.room_core.proofs.settling.FewSpent.{few_out, spent_is_out}
 use Rattle.room_core.proofs.settling.InOrder.{settled_over}
 
@@ -25,6 +25,7 @@ module _ (room : RoomState) (fields : Fields) (limits : IsWithinLimits room.spec
     blocker : (j : ℕ) → is_left j ≡ true → IsSettledInMind room.spec fields i j → (a : ℕ) × (a < room.spec.simulators) × (fields.crashed a ≡ true) × ((fields.mind a).process ≡ j)
     blocker j left (mind_decided is) = absurd (let wrong : true ≡ false = sym left ∙ ap is_unfinished is in cc)
     blocker j left (mind_spent is) = absurd (let wrong : true ≡ false = sym left ∙ ap is_unfinished is in cc)
+    blocker j left (mind_waits_for_input a is within crashed one) = (a, within, crashed, (one_inside room.spec fields (fields_stand room fields limits are).tracks a j 0 one).process)
     blocker j left (mind_waits a k is within crashed first last one) = (a, within, crashed, (one_inside room.spec fields (fields_stand room fields limits are).tracks a j k one).process)
 
     pub few_wait : length (unfinished_for room.spec fields i) ≤ length (crashed_in room.spec fields)
@@ -34,6 +35,7 @@ module _ (room : RoomState) (fields : Fields) (limits : IsWithinLimits room.spec
     out_or_left j low other (mind_decided is) = absurd (other is)
     out_or_left j low other (mind_spent is) = inl (spent_is_out room fields limits are i j below low is)
     out_or_left j low other (mind_waits a k is within crashed first last one) = inr (ap is_unfinished is)
+    out_or_left j low other (mind_waits_for_input a is within crashed one) = inr (ap is_unfinished is)
 
     decides_by : (f : ℕ) (own : Option ℕ) → IsCertified room.spec f → length (crashed_in room.spec fields) ≤ f → decision_in fields i ≡ own → (decision : ℕ) × (own ≡ Some decision)
     decides_by f (Some decision) certified few is = (decision, refl)
@@ -73,3 +75,10 @@ module _ (room : RoomState) (fields : Fields) (limits : IsWithinLimits room.spec
       decides_there has.room after (subst IsWithinLimits back limits) has.is.are left.simulator (subst (λ (s : RoomSpec). left.simulator < s.simulators) back left.below)
       (subst (λ (s : RoomSpec). (j : ℕ) → j < processes s → IsSettledInMind s after left.simulator j) back each_settled) f
       (subst (λ (s : RoomSpec). IsCertified s f) back certified) (subst (λ (s : RoomSpec). length (crashed_in s after) ≤ f) back few)
+
+  -- at most f of f + 1 have crashed if one has not
+  pub others_crash : (f : ℕ) → IsCertified room.spec f → room.spec.simulators ≤ f + 1 → (decision : ℕ) × (decision_in (fields_after_settle room.spec fields) left.simulator ≡ Some decision)
+  others_crash f certified few =
+      let low = left.below in
+      let less = one_fails (fields_after_settle room.spec fields).crashed 0 room.spec.simulators left.simulator (omega arith) (omega (arith, low)) left.alive in
+      each_decides f certified (omega (arith, less, few))

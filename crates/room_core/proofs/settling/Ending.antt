@@ -5,13 +5,16 @@ use Rattle.std.proofs.lemmas.List.Folds.{list_any_at}
 use Rattle.std.proofs.lemmas.List.FromFn.{get_or-map-range_with_len, length-map-range_with_len}
 use Rattle.protocol_lang.specs.declared.meaning.Action.TheVariants as actions
 use Rattle.room_spec.specs.Rooms.{RoomSpec, IsWithinLimits, processes}
+use Rattle.room_spec.specs.Sizes.{sizes_in}
 use Rattle.safe_agreement.specs.Levels.{has_level}
+use Rattle.simulator.specs.declared.goal.Goal.TheVariants as goals
+use Rattle.simulator.specs.Ranges.{IsGoal}
 use Rattle.safe_agreement.proofs.CallerLemmas.{has_level_at, no_level_from}
 use Rattle.room_core.specs.Calls.{RoomState}
 use Rattle.room_core.specs.Fields.{Fields, levels_at, fields_after_settle}
 use Rattle.room_core.specs.Reading.{AreFieldsOf}
 use Rattle.room_core.specs.Agreements.{IsFixedAt, asks, is_out, outs_at, has_out, is_clean}
-use Rattle.room_core.specs.Settled.{HasTurnLeft, IsSettledFor, decided, spent, held, IsSettledInMind, mind_decided, mind_spent, mind_waits}
+use Rattle.room_core.specs.Settled.{HasTurnLeft, IsSettledFor, decided, spent, held, held_input, IsSettledInMind, mind_decided, mind_spent, mind_waits, mind_waits_for_input}
 use Rattle.room_core.proofs.settling.Decisions.{mind_ranges}
 use Rattle.room_core.proofs.settling.EachDecides.{each_settled}
 use Rattle.room_core.proofs.settling.FewSpent.{spent_asks}
@@ -50,6 +53,9 @@ module _ (room : RoomState) (fields : Fields) (limits : IsWithinLimits room.spec
       let last = spent_asks room fields limits are i j below low is in
       passed_by room.spec fields j last.0 (λ a within one. crashed_inside room fields limits are a j room.spec.rounds (rests a within) one) limits.shape.rounds_range.0 last.1 last.2
   as_known i j below low (mind_waits a k is within crashed first last one) = held a k within crashed first last one
+  as_known i j below low (mind_waits_for_input a is within crashed one) =
+      let kind : IsGoal (sizes_in room.spec) goals.AskInput = subst (IsGoal (sizes_in room.spec)) is ((mind_ranges room fields limits are i below).rounds j low) in
+      held_input a kind within crashed one
 
 pub settled_for : (room : RoomState) (fields : Fields) → IsWithinLimits room.spec → AreFieldsOf room fields → HasTurnLeft room.spec (fields_after_settle room.spec fields) → (j : ℕ) → j < processes room.spec
     → IsSettledFor room.spec (fields_after_settle room.spec fields) j

@@ -1,8 +1,7 @@
 -- In a room of a protocol by which a process waits for all but f, more than f processes are within their rounds: of the last rows of those
 -- that are out of rounds the greatest shows each of them, and it shows fewer than all but f.
-use Rattle.std.proofs.Common.{◌≡◌, ◌≢◌, ◌⊎◌, ℕ, zero, suc, ◌+◌, ◌-◌, ◌<◌, ◌≤◌, Bool, true, false, cond, leb, List, length, Option, Some, None, inl, inr, refl, sym, ap, ◌∙◌, subst, arith}
+use Rattle.std.proofs.Common.{◌≡◌, ◌≢◌, ◌⊎◌, ℕ, zero, suc, ◌+◌, ◌-◌, ◌<◌, ◌≤◌, Bool, true, false, cond, leb, List, length, Some, None, inl, inr, refl, sym, ap, ◌∙◌, subst, arith}
 use Rattle.std.specs.Prelude.{slice_index}
-use Rattle.std.specs.List.{range_with_len, filter}
 use Rattle.std.proofs.lemmas.Bool.{and_parts, and_from, cases_Bool, leb-true, leb-false, ne_eqb}
 use Rattle.std.proofs.lemmas.List.FromFn.{length-map-range_with_len}
 use mathlib.Core.Logic.{dite}
@@ -17,7 +16,7 @@ use Rattle.sim_memory.specs.Steps.{IsRowAtMost, merged_of}
 use Rattle.simulator.specs.declared.goal.Goal.{Goal}
 use Rattle.simulator.specs.declared.goal.Goal.TheVariants as goals
 use Rattle.simulator.specs.Minds.{goal_at}
-use Rattle.room_core.specs.Agreements.{IsFixedAt, asks, is_fixed, row_at, shown, shown_by, view_at, written}
+use Rattle.room_core.specs.Agreements.{IsFixedAt, asks, input_at, is_fixed, row_at, shown, shown_by, view_at, written}
 use Rattle.room_core.specs.Calls.{RoomState}
 use Rattle.room_core.specs.Contents.{IsDue, first_write, next_write}
 use Rattle.room_core.specs.Fields.{Fields}
@@ -163,7 +162,7 @@ module _ (room : RoomState) (fields : Fields) (limits : IsWithinLimits room.spec
         let view = shown_by room.spec fields row in
         let long : length view ≡ n = length-map-range_with_len (λ p. shown room.spec fields p (slice_index row p)) 0 n in
         elim (cases_Bool (leb (length view - f) (length (present view)))) [
-          | inl enough ↦ absurd (decides_with f (slice_index room.spec.inputs j) j k view (leb-true _ _ enough) v (subst (λ (tree : Tree). next_action tree (slice_index room.spec.inputs j) j k view ≡ actions.Write v) certified.protocol is))
+          | inl enough ↦ absurd (decides_with f (input_at room.spec fields j) j k view (leb-true _ _ enough) v (subst (λ (tree : Tree). next_action tree (input_at room.spec fields j) j k view ≡ actions.Write v) certified.protocol is))
           | inr fewer ↦ let less = leb-false _ _ fewer in omega (arith, less, long, certified.fewer)
         ]
 

@@ -1,14 +1,15 @@
 -- A simulator for which a process is done has stored its decision.
-use Rattle.std.proofs.Common.{◌≡◌, ◌≢◌, ℕ, zero, suc, ◌+◌, ◌<◌, Bool, true, false, cond, ltb, List, [], ◌∷◌, length, get_or, set, map, sym, ap, ◌∙◌, subst, arith}
+use Rattle.std.proofs.Common.{◌≡◌, ◌≢◌, ℕ, zero, suc, ◌+◌, ◌<◌, Bool, true, false, cond, ltb, List, [], ◌∷◌, length, get_or, set, map, min, replicate, slice_index, refl, sym, ap, ◌∙◌, subst, arith}
 use Rattle.std.specs.List.{range_with_len}
 use Rattle.std.proofs.lemmas.List.{get_or-set_same, get_or-set_other, length-set}
 use mathlib.Core.Logic.{dite}
 use native.Mathlib.Decide.{ℕ_discrete}
-use Rattle.room_spec.specs.Rooms.{RoomSpec, IsWithinLimits, processes}
+use Rattle.room_spec.specs.Rooms.{RoomSpec, IsWithinLimits, is_reduction, processes}
 use Rattle.simulator.specs.declared.goal.Goal.{Goal}
 use Rattle.simulator.specs.declared.goal.Goal.TheVariants as goals
-use Rattle.simulator.specs.Minds.{current_round, first_goal, goal_at}
-use Rattle.simulator.specs.Turns.{after_write}
+use Rattle.simulator.specs.Minds.{current_round, first_goal, first_goals, first_write, goal_at}
+use Rattle.simulator.specs.Turns.{after_write, asks_in}
+use Rattle.protocol_lang.specs.Numbers.{greatest}
 use Rattle.room_core.specs.Rooms.{Configuration, ScheduleEvent, steps, crashes, MayHappen, IsShaped}
 use Rattle.room_core.specs.Calls.{RoomState, configuration_of}
 use Rattle.room_core.specs.Fields.{Fields, changed, line, opening_fields, fields_after, replay_fields}
@@ -16,7 +17,7 @@ use Rattle.room_core.specs.Reading.{AreFieldsOf}
 use Rattle.room_core.specs.Tracks.{StandsFor}
 use Rattle.room_core.proofs.fields.Maps.{changed_here, changed_else}
 use Rattle.room_core.proofs.fields.Prefixes.{over_run}
-use Rattle.room_core.proofs.fields.Effects.{Own, own_of, Effect, line_effect, stores, raises, collects_word, collects_again, scans, shows_word, shows, loads_word, enters, looks, leaves, asks_in_vain, finds, gathers, goes_to, will_decide, decides}
+use Rattle.room_core.proofs.fields.Effects.{Own, own_of, process_on, Effect, line_effect, stores, proposes, raises, collects_word, collects_again, scans, shows_word, shows, loads_word, enters, looks, leaves, asks_in_vain, finds, gets_input, gathers, goes_to, will_decide, decides}
 use Rattle.room_core.proofs.fields.FieldCalls.{leads_of}
 
 abbrev pub HasStored : Own → ℕ → Type 0
@@ -25,6 +26,10 @@ HasStored own p = p < length own.mind.goals → goal_at own.mind.goals p ≡ goa
 not_done_by : (b : Bool) (round value : ℕ) → cond b (goals.Write round value) goals.Spent ≢ goals.Done
 not_done_by true round value is = cc
 not_done_by false round value is = cc
+
+no_done : (round : ℕ) → asks_in round ≢ goals.Done
+no_done zero is = cc
+no_done (suc round) is = cc
 
 module _ (spec : RoomSpec) (fields : Fields) (own : Own) (p : ℕ) where
   ended_stored : (list : List Goal) (j : ℕ) (goal : Goal) → list ≡ own.mind.goals → goal ≢ goals.Done → HasStored own p → p < length (set list j goal) → goal_at (set list j goal) p ≡ goals.Done → own.out p ≢ 0
@@ -44,17 +49,19 @@ module _ (spec : RoomSpec) (fields : Fields) (own : Own) (p : ℕ) where
 
   pub own_stored : (after : Own) → Effect spec fields own after → HasStored own p → HasStored after p
   own_stored after (stores j k value rest goal count process first last) was = was
+  own_stored after (proposes j value rest goal none unentered within kind) was = was
   own_stored after (raises turn whole begun count) was = was
   own_stored after (collects_word turn count none more) was = was
   own_stored after (collects_again turn count none last several goes) was = was
   own_stored after (scans collects turn count none last ends) was = was
+  own_stored after (gets_input chosen turn count less) was = ended_stored own.mind.goals own.mind.process (first_write spec (min (fields.value chosen (process_on own) 0) greatest) (process_on own)) refl (λ e. cc) was
   own_stored after (loads_word found turn less more) was = was
   own_stored after (shows_word turn count none more) was = was
   own_stored after (shows turn count none last) was = was
   own_stored after (enters turn count none) was = was
   own_stored after (looks turn count one) was = was
   own_stored after (leaves saw_two turn count one) was = was
-  own_stored after (asks_in_vain asking asks is) was = ended_stored asking.goals asking.process (goals.Ask (current_round asking)) asks.goals (λ e. cc) was
+  own_stored after (asks_in_vain asking asks is) was = ended_stored asking.goals asking.process (asks_in (current_round asking)) asks.goals (no_done (current_round asking)) was
   own_stored after (finds asking chosen asks is) was = same_stored asking.goals asks.goals was
   own_stored after (gathers reading reads more) was = same_stored reading.goals reads.goals was
   own_stored after (goes_to reading value reads all is) was =
@@ -79,8 +86,17 @@ opening_stored spec [] p below done = omega arith
 opening_stored spec (q ∷ numbers) zero below done = cc
 opening_stored spec (q ∷ numbers) (suc p) below done = opening_stored spec numbers p (omega arith) done
 
+proposals_left : (n value p : ℕ) → p < length (replicate n (goals.Propose value)) → goal_at (replicate n (goals.Propose value)) p ≢ goals.Done
+proposals_left zero value p below done = omega arith
+proposals_left (suc n) value zero below done = cc
+proposals_left (suc n) value (suc p) below done = proposals_left n value p (omega arith) done
+
+opening_left : (spec : RoomSpec) (b : Bool) (value p : ℕ) → p < length (cond b (replicate (processes spec) (goals.Propose value)) (first_goals spec)) → goal_at (cond b (replicate (processes spec) (goals.Propose value)) (first_goals spec)) p ≢ goals.Done
+opening_left spec true value p below = proposals_left (processes spec) value p below
+opening_left spec false value p below = opening_stored spec (range_with_len 0 (processes spec)) p below
+
 pub fields_stored : (room : RoomState) (fields : Fields) → IsWithinLimits room.spec → AreFieldsOf room fields → (i p : ℕ) → HasStored (own_of fields i) p
 fields_stored room fields limits are =
     let base = replay_fields room.spec (opening_fields room.spec) are.run.schedule in
     subst (λ (f : Fields). (i p : ℕ) → HasStored (own_of f i) p) (sym (leads_of room fields are))
-    (over_run StoredAfter stored_kept (configuration_of room) limits are.run (λ i p below done. absurd (opening_stored room.spec (range_with_len 0 (processes room.spec)) p below done)))
+    (over_run StoredAfter stored_kept (configuration_of room) limits are.run (λ i p below done. absurd (opening_left room.spec (is_reduction room.spec) (slice_index room.spec.own i) p below done)))

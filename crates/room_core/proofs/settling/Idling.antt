@@ -6,12 +6,11 @@ use native.Mathlib.Decide.{ℕ_discrete}
 use Rattle.room_spec.specs.Rooms.{IsWithinLimits, processes}
 use Rattle.room_spec.specs.Sizes.{sizes_in}
 use Rattle.safe_agreement.specs.Levels.{IsClean}
-use Rattle.safe_agreement.specs.Phases.{Left}
+use Rattle.safe_agreement.specs.Phases.{Before, Left}
 use Rattle.safe_agreement.proofs.CallerLemmas.{resolves, settles}
 use Rattle.simulator.specs.declared.goal.Goal.{Goal}
 use Rattle.simulator.specs.declared.goal.Goal.TheVariants as goals
 use Rattle.simulator.specs.declared.line.Line.{Line}
-use Rattle.simulator.specs.declared.line.Line.TheVariants.{Rest, Raise, Snap, Show, Enter, Look, Leave, Ask, GetView, Values, Out}
 use Rattle.simulator.specs.declared.sweep.Ready.TheVariants as ready
 use Rattle.simulator.specs.Minds.{goal_at, current_goal, unfinished_in}
 use Rattle.simulator.specs.Quiet.{HasNoWrite}
@@ -22,15 +21,15 @@ use Rattle.room_core.specs.Calls.{RoomState, configuration_of}
 use Rattle.room_core.specs.Fields.{StepMap, Fields, levels_at, chosen_at, ready_in}
 use Rattle.room_core.specs.Reading.{AreFieldsOf, worded}
 use Rattle.room_core.specs.Agreements.{IsInside}
-use Rattle.room_core.specs.Settled.{IsSettledInMind, mind_decided, mind_spent, mind_waits}
+use Rattle.room_core.specs.Settled.{IsSettledInMind, mind_decided, mind_spent, mind_waits, mind_waits_for_input}
 use Rattle.room_core.specs.Tracks.{AtRest, Tells, stage_of}
 use Rattle.room_core.proofs.fields.Replays.{shapes}
 use Rattle.room_core.proofs.fields.FieldReplays.{mind_is}
 use Rattle.room_core.proofs.fields.FieldCalls.{fields_stand}
-use Rattle.room_core.proofs.fields.Tracks.{beside, at_sweep}
+use Rattle.room_core.proofs.fields.Tracks.{beside, at_sweep, rest_stage_for}
 use Rattle.room_core.proofs.fields.LineTracks.{each_at_rest}
-use Rattle.room_core.proofs.agreements.Stages.{Progress, Past, line_progress, phase_of, now, phases_in, level_is, levels_are_phases, one_inside}
-use Rattle.room_core.proofs.agreements.Sound.{fields_sound}
+use Rattle.room_core.proofs.agreements.Stages.{Progress, Past, is_proposal, is_unproposed, line_progress, phase_begun, phase_of, now, phases_in, level_is, levels_are_phases, one_inside}
+use Rattle.room_core.proofs.agreements.Sound.{IsAgreed, fields_sound}
 use Rattle.room_core.proofs.settling.Marks.{mark, IsBlockedCount, all_blocked}
 use Rattle.room_core.proofs.settling.Blocking.{is_nothing, unresolved}
 
@@ -48,7 +47,7 @@ one_or_none (suc m) level = dite (ℕ_discrete (level m) 1)
       | inr none ↦ inr (λ a below. dite (ℕ_discrete a m) (λ (e : a ≡ m). subst (λ (b : ℕ). level b ≢ 1) (sym e) n) (λ (o : a ≢ m). none a (omega (arith, o))))
     ])
 
-both_past : (here : Bool) → cond here Past Past ≡ Past
+pub both_past : (here : Bool) → cond here Past Past ≡ Past
 both_past true = refl
 both_past false = refl
 
@@ -61,6 +60,10 @@ enough_by false enough has_turns is = absurd cc
 blocked_by : (b : Bool) (round : ℕ) → HasNoWrite (cond b (goals.Ask round) (goals.Write round 0)) → b ≡ true
 blocked_by true round is = refl
 blocked_by false round is = absurd is
+
+input_blocked : (b : Bool) → HasNoWrite (cond b goals.AskInput (goals.Propose 0)) → b ≡ true
+input_blocked true is = refl
+input_blocked false is = absurd is
 
 nothing_is : (chosen : Option ℕ) → is_nothing chosen ≡ true → chosen ≡ None
 nothing_is None is = refl
@@ -87,23 +90,24 @@ module _ (room : RoomState) (fields : Fields) (limits : IsWithinLimits room.spec
         let own = subst (λ (line : Line). Tells room.spec.rounds (current_goal mind) (stage_of line) (fields.step i mind.process) (fields.level i mind.process)) (rest_line mind.line rest) (at_sweep room.spec.rounds mind (fields.step i) (fields.level i) told) in
         each_at_rest room.spec.rounds mind.process mind.goals (fields.step i) (fields.level i) (beside room.spec.rounds mind (fields.step i) (fields.level i) told) own p
 
-    left_here : (j k : ℕ) → fields.step i j ≡ k → phases_in fields j k i ≡ Left (fields.level i j k)
-    left_here j k same =
+    left_here : (j k : ℕ) → is_proposal (goal_at (fields.mind i).goals j) ≡ false → fields.step i j ≡ k → phases_in fields j k i ≡ Left (fields.level i j k)
+    left_here j k begun same =
         let mind = fields.mind i in
         let here = eqb j mind.process in
-        ap (λ (p : Progress). phase_of p (fields.level i j k))
+        ap (λ (b : Bool). cond b Before (phase_begun mind (fields.step i) (fields.level i) j k)) (ap (is_unproposed (goal_at mind.goals j)) (rest_stage_for mind j (rest_line mind.line rest)) ∙ begun)
+        ∙ ap (λ (p : Progress). phase_of p (fields.level i j k))
         (now (fields.step i j) k here (line_progress mind.line) same ∙ ap (λ (l : Line). cond here (line_progress l) Past) (rest_line mind.line rest) ∙ both_past here)
 
     -- an agreement that it has left, and that isn't resolved, has somebody at level 1
-    blocked_one : (j k : ℕ) → 1 ≤ k → fields.step i j ≡ k → chosen_at room.spec fields j k ≡ None → (a : ℕ) × (a < room.spec.simulators) × (fields.level a j k ≡ 1)
-    blocked_one j k low same none = elim (one_or_none room.spec.simulators (λ a. fields.level a j k)) [
+    blocked_one : (j k : ℕ) → IsAgreed room.spec j k → is_proposal (goal_at (fields.mind i).goals j) ≡ false → fields.step i j ≡ k → chosen_at room.spec fields j k ≡ None → (a : ℕ) × (a < room.spec.simulators) × (fields.level a j k ≡ 1)
+    blocked_one j k low begun same none = elim (one_or_none room.spec.simulators (λ a. fields.level a j k)) [
       | inl some ↦ some
       | inr nobody ↦
           let spec = room.spec in
           let tracks = (fields_stand room fields limits are).tracks in
           let sound = fields_sound room fields limits are in
           let clean : IsClean (levels_at spec fields j k) = subst IsClean (sym (levels_are_phases spec fields tracks j k))
-          (settles spec.simulators (phases_in fields j k) i (fields.level i j k) (sound.beside j k low) below (left_here j k same)
+          (settles spec.simulators (phases_in fields j k) i (fields.level i j k) (sound.beside j k low) below (left_here j k begun same)
           (λ a within one. nobody a within (level_is spec.rounds (fields.mind a) (fields.step a) (fields.level a) (tracks.told a) j k ∙ one))) in
           let to = resolves (levels_at spec fields j k) clean in
           absurd (let wrong : None ≡ Some to.0 = sym none ∙ to.1 in cc)
@@ -114,10 +118,18 @@ module _ (room : RoomState) (fields : Fields) (limits : IsWithinLimits room.spec
     settled_at (goals.Ask k) j is low rests waits =
         let spec = room.spec in
         let count : fields.step i j ≡ k = (subst (λ (g : Goal). Tells spec.rounds g AtRest (fields.step i j) (fields.level i j)) is (tells j)).counts in
-        let range : IsGoal spec.rounds (goals.Ask k) = subst (IsGoal spec.rounds) is (is_mind.rounds j low) in
+        let range : IsGoal (sizes_in spec) (goals.Ask k) = subst (IsGoal (sizes_in spec)) is (is_mind.rounds j low) in
         let none = nothing_is (chosen_at spec fields j k) (blocked_by (unresolved spec fields j k) k waits) in
-        let one = blocked_one j k range.0 count none in
+        let one = blocked_one j k (inl range.0) (ap is_proposal is) count none in
         mind_waits one.0 k is one.1 (crashed_inside one.0 j k (rests one.0 one.1) one.2) range.0 range.1 one.2
+    settled_at (goals.Propose value) j is low rests waits = absurd waits
+    settled_at goals.AskInput j is low rests waits =
+        let spec = room.spec in
+        let count : fields.step i j ≡ 0 = (subst (λ (g : Goal). Tells spec.rounds g AtRest (fields.step i j) (fields.level i j)) is (tells j)).counts in
+        let kind : IsGoal (sizes_in spec) goals.AskInput = subst (IsGoal (sizes_in spec)) is (is_mind.rounds j low) in
+        let none = nothing_is (chosen_at spec fields j 0) (input_blocked (unresolved spec fields j 0) waits) in
+        let one = blocked_one j 0 (inr (kind, low)) (ap is_proposal is) count none in
+        mind_waits_for_input one.0 is one.1 (crashed_inside one.0 j 0 (rests one.0 one.1) one.2) one.2
     settled_at goals.Done j is low rests waits = mind_decided is
     settled_at goals.Spent j is low rests waits = mind_spent is
 

@@ -3,17 +3,19 @@ use Rattle.std.proofs.Common.{◌≡◌, ℕ, zero, suc, ◌+◌, ◌%◌, ◌<�
 use Rattle.std.specs.List.{filter, position, position_or_len}
 use Rattle.std.specs.Option.{option_map}
 use Rattle.simulator.specs.declared.goal.Goal.{Goal}
-use Rattle.simulator.specs.declared.goal.Goal.TheVariants.{Write, Ask, Done, Spent}
+use Rattle.simulator.specs.declared.goal.Goal.TheVariants.{Write, Ask, Propose, AskInput, Done, Spent}
 use Rattle.simulator.specs.declared.turn.Turn.TheVariants.{Useful}
-use Rattle.simulator.specs.Minds.{MindOf, is_unfinished, goal_at, current_goal, current_round, next_process, or_else, unfinished_in}
-use Rattle.simulator.specs.Quiet.{HasNoWrite, AreAsksAtTheEnd, unfinished_from}
-use Rattle.simulator.specs.Turns.{begun, ended, asked}
+use Rattle.simulator.specs.Minds.{MindOf, is_unfinished, goal_at, current_goal, current_round, next_process, or_else, round_of, unfinished_in}
+use Rattle.simulator.specs.Quiet.{HasNoWrite, IsAsk, AreAsksAtTheEnd, unfinished_from}
+use Rattle.simulator.specs.Turns.{asks_in, begun, ended, asked}
 use Rattle.simulator.specs.Sweeps.{quiet_after}
 use Rattle.simulator.proofs.CallerLemmas.{sets_out, no_asks, quiet_ends, all_asked}
 
 abbrev pub mark : (ℕ → ℕ → Bool) → ℕ → Goal → Goal
 mark blocked p (Write round value) = Write round value
 mark blocked p (Ask round) = cond (blocked p round) (Ask round) (Write round 0)
+mark blocked p (Propose value) = Propose value
+mark blocked p AskInput = cond (blocked p 0) AskInput (Propose 0)
 mark blocked p Done = Done
 mark blocked p Spent = Spent
 
@@ -26,9 +28,15 @@ module _ (blocked : ℕ → ℕ → Bool) where
   test_by true round = refl
   test_by false round = refl
 
+  test_by_input : (b : Bool) → is_unfinished (cond b AskInput (Propose 0)) ≡ true
+  test_by_input true = refl
+  test_by_input false = refl
+
   same_test : (p : ℕ) (goal : Goal) → is_unfinished (mark blocked p goal) ≡ is_unfinished goal
   same_test p (Write round value) = refl
   same_test p (Ask round) = test_by (blocked p round) round
+  same_test p (Propose value) = refl
+  same_test p AskInput = test_by_input (blocked p 0)
   same_test p Done = refl
   same_test p Spent = refl
 
@@ -87,18 +95,29 @@ module _ (blocked : ℕ → ℕ → Bool) where
       ∙ ap (λ (q : ℕ). mark blocked p first ∷ set (marks blocked (suc p) goals) s (mark blocked q goal)) (let same : suc p + s ≡ p + suc s = omega arith in same)
 
 -- the marks look only at the asks that are there
-mark_by : (blocked other : ℕ → ℕ → Bool) (p : ℕ) (goal : Goal) → ((round : ℕ) → goal ≡ Ask round → blocked p round ≡ other p round) → mark blocked p goal ≡ mark other p goal
+mark_by : (blocked other : ℕ → ℕ → Bool) (p : ℕ) (goal : Goal) → (IsAsk goal → blocked p (round_of goal) ≡ other p (round_of goal)) → mark blocked p goal ≡ mark other p goal
 mark_by blocked other p (Write round value) same = refl
-mark_by blocked other p (Ask round) same = ap (λ (b : Bool). cond b (Ask round) (Write round 0)) (same round refl)
+mark_by blocked other p (Ask round) same = ap (λ (b : Bool). cond b (Ask round) (Write round 0)) (same tt)
+mark_by blocked other p (Propose value) same = refl
+mark_by blocked other p AskInput same = ap (λ (b : Bool). cond b AskInput (Propose 0)) (same tt)
 mark_by blocked other p Done same = refl
 mark_by blocked other p Spent same = refl
 
-pub same_marks : (blocked other : ℕ → ℕ → Bool) (p : ℕ) (goals : List Goal) → ((s round : ℕ) → goal_at goals s ≡ Ask round → blocked (p + s) round ≡ other (p + s) round) → marks blocked p goals ≡ marks other p goals
+pub same_marks : (blocked other : ℕ → ℕ → Bool) (p : ℕ) (goals : List Goal) → ((s : ℕ) → IsAsk (goal_at goals s) → blocked (p + s) (round_of (goal_at goals s)) ≡ other (p + s) (round_of (goal_at goals s))) → marks blocked p goals ≡ marks other p goals
 same_marks blocked other p [] same = refl
 same_marks blocked other p (goal ∷ goals) same =
-    let here : mark blocked p goal ≡ mark other p goal = mark_by blocked other p goal (λ round is. subst (λ (q : ℕ). blocked q round ≡ other q round) (let e : p + 0 ≡ p = omega arith in e) (same 0 round is)) in
-    let more = same_marks blocked other (suc p) goals (λ s round is. subst (λ (q : ℕ). blocked q round ≡ other q round) (let e : p + suc s ≡ suc p + s = omega arith in e) (same (suc s) round is)) in
+    let here : mark blocked p goal ≡ mark other p goal = mark_by blocked other p goal (λ is. subst (λ (q : ℕ). blocked q (round_of goal) ≡ other q (round_of goal)) (let e : p + 0 ≡ p = omega arith in e) (same 0 is)) in
+    let more = same_marks blocked other (suc p) goals (λ s is. subst (λ (q : ℕ). blocked q (round_of (goal_at goals s)) ≡ other q (round_of (goal_at goals s))) (let e : p + suc s ≡ suc p + s = omega arith in e) (same (suc s) is)) in
     λ t. here t ∷ more t
+
+-- what is left to ask is an ask, and is marked as one where it is blocked
+asks_are : (round : ℕ) → IsAsk (asks_in round)
+asks_are zero = tt
+asks_are (suc round) = tt
+
+asks_marked : (blocked : ℕ → ℕ → Bool) (p round : ℕ) → blocked p round ≡ true → mark blocked p (asks_in round) ≡ asks_in round
+asks_marked blocked p zero is = ap (λ (b : Bool). cond b AskInput (Propose 0)) is
+asks_marked blocked p (suc round) is = ap (λ (b : Bool). cond b (Ask (suc round)) (Write (suc round) 0)) is
 
 -- ---- the quiet count of a mind whose last asks are blocked
 
@@ -124,14 +143,14 @@ module _ {S : Type 0} (blocked : ℕ → ℕ → Bool) where
       let s = mind.process in
       let round = current_round mind in
       let zero_is : 0 + s ≡ s = omega arith in
-      let here : mark blocked (0 + s) (Ask round) ≡ Ask round = ap (λ (q : ℕ). mark blocked q (Ask round)) zero_is ∙ ap (λ (b : Bool). cond b (Ask round) (Write round 0)) (is refl) in
+      let here : mark blocked (0 + s) (asks_in round) ≡ asks_in round = ap (λ (q : ℕ). mark blocked q (asks_in round)) zero_is ∙ asks_marked blocked s round (is refl) in
       let long = same_length blocked 0 mind.goals in
       let still : is_unfinished (goal_at list s) ≡ true = ap is_unfinished (goal_marked blocked s 0 mind.goals) ∙ same_test blocked (0 + s) (goal_at mind.goals s) ∙ left in
-      let ends = quiet_ends list s round quiet (min (quiet + 1) 255) (omega (arith, long, place)) still (omega arith) counts in
-      let same : set list s (Ask round) ≡ marks blocked 0 (set mind.goals s (Ask round)) = sym (set_marked blocked s 0 mind.goals (Ask round) ∙ ap (set list s) here) in
+      let ends = quiet_ends list s (asks_in round) quiet (min (quiet + 1) 255) (omega (arith, long, place)) still (omega arith) (asks_are round) counts in
+      let same : set list s (asks_in round) ≡ marks blocked 0 (set mind.goals s (asks_in round)) = sym (set_marked blocked s 0 mind.goals (asks_in round) ∙ ap (set list s) here) in
       let place_is : (s + 1) % length list ≡ (s + 1) % length mind.goals = ap (λ (n : ℕ). (s + 1) % n) long in
       subst (λ (l : List Goal). AreAsksAtTheEnd (unfinished_from l ((s + 1) % length mind.goals)) (min (quiet + 1) 255)) same
-      (subst (λ (n : ℕ). AreAsksAtTheEnd (unfinished_from (set list s (Ask round)) n) (min (quiet + 1) 255)) place_is ends)
+      (subst (λ (n : ℕ). AreAsksAtTheEnd (unfinished_from (set list s (asks_in round)) n) (min (quiet + 1) 255)) place_is ends)
 
   -- as many as are unfinished: each ask is blocked, and no write is left
   pub all_blocked : (mind : MindOf S) (quiet process : ℕ) → unfinished_in mind.goals ≤ quiet → IsBlockedCount blocked mind quiet → HasNoWrite (mark blocked process (goal_at mind.goals process))

@@ -1,5 +1,5 @@
 -- What becomes of each process while simulators run alone, one after the other.
-use Rattle.std.proofs.Common.{◌≡◌, ◌≢◌, ℕ, ◌<◌, ◌≤◌, Bool, true, false, cond, leb, refl, sym, ap, ◌∙◌, subst}
+use Rattle.std.proofs.Common.{◌≡◌, ◌≢◌, ℕ, ◌<◌, Bool, true, false, cond, leb, refl, sym, ap, ◌∙◌, subst}
 use Rattle.std.proofs.lemmas.Bool.{leb-false}
 use Rattle.room_spec.specs.Rooms.{RoomSpec, IsWithinLimits}
 use Rattle.simulator.specs.declared.sweep.Ready.{Ready}
@@ -11,7 +11,7 @@ use Rattle.room_core.specs.Rooms.{HasLine}
 use Rattle.room_core.specs.Calls.{RoomState, configuration_of, has_crashed, ready_at}
 use Rattle.room_core.specs.Fields.{StepMap, Fields, changed, line, ready_in, fields_when, fields_after_step, with_taken}
 use Rattle.room_core.specs.Reading.{AreFieldsOf}
-use Rattle.room_core.specs.Settled.{IsSettledInMind, mind_decided, mind_spent, mind_waits}
+use Rattle.room_core.specs.Settled.{IsSettledInMind, mind_decided, mind_spent, mind_waits, mind_waits_for_input}
 use Rattle.room_core.proofs.fields.Replays.{shapes}
 use Rattle.room_core.proofs.fields.States.{has_line}
 use Rattle.room_core.proofs.fields.Maps.{changed_here}
@@ -66,6 +66,8 @@ settled_kept spec i fields after b j kept same (mind_decided is) = mind_decided 
 settled_kept spec i fields after b j kept same (mind_spent is) = mind_spent (ap (λ (m : MindOf StepMap). goal_at m.goals j) same ∙ is)
 settled_kept spec i fields after b j kept same (mind_waits a k is below crashed first last one) =
     mind_waits a k (ap (λ (m : MindOf StepMap). goal_at m.goals j) same ∙ is) below (kept.crashed a ∙ crashed) first last (kept.levels a j k crashed ∙ one)
+settled_kept spec i fields after b j kept same (mind_waits_for_input a is below crashed one) =
+    mind_waits_for_input a (ap (λ (m : MindOf StepMap). goal_at m.goals j) same ∙ is) below (kept.crashed a ∙ crashed) (kept.levels a j 0 crashed ∙ one)
 
 module _ (room : RoomState) (fields : Fields) (i : ℕ) (limits : IsWithinLimits room.spec) (are : AreFieldsOf room fields) where
   line_crashed : HasLine (configuration_of room) i → (a : ℕ) → (line room.spec fields i).crashed a ≡ fields.crashed a

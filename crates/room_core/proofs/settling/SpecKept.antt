@@ -1,6 +1,5 @@
 -- No call changes a room's spec.
 use Rattle.std.proofs.Common.{◌≡◌, ◌∙◌, ℕ, zero, suc, Bool, true, false, cond, leb, refl}
-use Rattle.room_spec.specs.Rooms.{RoomSpec}
 use Rattle.simulator.specs.declared.sweep.Ready.{Ready}
 use Rattle.simulator.specs.declared.sweep.Ready.TheVariants as ready
 use Rattle.room_core.specs.Calls.{RoomState, Call, Step, Crash, Settle, has_crashed, marked, ready_at, room_after_call, room_after_step, room_after_steps, room_kind, room_when}

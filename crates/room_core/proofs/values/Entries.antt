@@ -25,7 +25,9 @@ IsSmallEntry entry = IfSome entry (λ value. value ≤ greatest)
 abbrev pub AreSmall : List (Option ℕ) → Type 0
 AreSmall entries = AllByRecursion IsSmallEntry entries
 
--- no write of the protocol has a value above the greatest, in a round of the room and where no entry has
+-- no input is above the greatest value, and no write of the protocol, in a round of the room and if the input and no entry are
 pub record HasSmallValues (spec : RoomSpec) : Type 0 where
-  pub first : (p : ℕ) → p < processes spec → first_value spec.protocol (slice_index spec.inputs p) p (processes spec) ≤ greatest
-  pub next : (p k value : ℕ) (view : List (Option ℕ)) → p < processes spec → k ≤ spec.rounds → length view ≡ processes spec → AreSmall view → next_action spec.protocol (slice_index spec.inputs p) p k view ≡ actions.Write value → value ≤ greatest
+  pub inputs : (p : ℕ) → slice_index spec.inputs p ≤ greatest
+  pub own : (i : ℕ) → slice_index spec.own i ≤ greatest
+  pub first : (p input : ℕ) → p < processes spec → input ≤ greatest → first_value spec.protocol input p (processes spec) ≤ greatest
+  pub next : (p input k value : ℕ) (view : List (Option ℕ)) → p < processes spec → input ≤ greatest → k ≤ spec.rounds → length view ≡ processes spec → AreSmall view → next_action spec.protocol input p k view ≡ actions.Write value → value ≤ greatest

@@ -1,5 +1,5 @@
 -- What a line makes of a simulator's values, goals and readings.
-use Rattle.std.proofs.Common.{◌≡◌, ◌≢◌, ◌⊎◌, ℕ, ◌+◌, ◌<◌, ◌≤◌, Bool, true, false, cond, ltb, List, length, get_or, set, inl, inr, refl, sym, ap, ◌∙◌, arith}
+use Rattle.std.proofs.Common.{◌≡◌, ◌≢◌, ◌⊎◌, ℕ, zero, suc, ◌+◌, ◌<◌, ◌≤◌, Bool, true, false, cond, ltb, min, List, length, get_or, set, inl, inr, refl, sym, ap, ◌∙◌, arith}
 use Rattle.std.proofs.lemmas.List.{get_or-set_same, get_or-set_other}
 use mathlib.Core.Logic.{dite}
 use native.Mathlib.Decide.{ℕ_discrete}
@@ -8,17 +8,21 @@ use Rattle.room_spec.specs.Rooms.{RoomSpec, processes}
 use Rattle.simulator.specs.declared.goal.Goal.{Goal}
 use Rattle.simulator.specs.declared.goal.Goal.TheVariants as goals
 use Rattle.simulator.specs.declared.line.Line.{Line}
-use Rattle.simulator.specs.declared.line.Line.TheVariants.{Rest, Raise, Out}
-use Rattle.simulator.specs.Minds.{MindOf, goal_at, current_goal, current_round, is_unfinished, round_of}
-use Rattle.simulator.specs.Turns.{after_write}
+use Rattle.simulator.specs.declared.line.Line.TheVariants.{Rest, Raise, GetInput, Out}
+use Rattle.simulator.specs.Minds.{MindOf, goal_at, current_goal, current_round, first_write, is_unfinished, round_of}
+use Rattle.simulator.specs.Turns.{after_write, asks_in}
+use Rattle.protocol_lang.specs.Numbers.{greatest}
+use Rattle.protocol_lang.specs.Meaning.{first_value}
 use Rattle.room_core.specs.Fields.{StepMap, Fields, changed, changed_pair}
 use Rattle.room_core.proofs.fields.Maps.{changed_here, changed_else, pair_here, pair_else}
 use Rattle.room_core.proofs.agreements.Deciding.{not_done, HasDecided}
-use Rattle.room_core.proofs.fields.Effects.{Own, process_on, round_on, action_of, IsReading, Effect, stores, raises, collects_word, collects_again, scans, shows_word, shows, loads_word, enters, looks, leaves, asks_in_vain, finds, gathers, goes_to, will_decide, decides}
+use Rattle.room_core.proofs.fields.Effects.{gets_not, Own, process_on, round_on, action_of, IsReading, IsTurn, Effect, stores, proposes, raises, collects_word, collects_again, scans, shows_word, shows, loads_word, enters, looks, leaves, asks_in_vain, finds, gets_input, gathers, goes_to, will_decide, decides}
 
 not_spent : (goal : Goal) → is_unfinished goal ≡ true → goal ≢ goals.Spent
 not_spent (goals.Write k value) left is = cc
 not_spent (goals.Ask k) left is = cc
+not_spent (goals.Propose value) left is = cc
+not_spent goals.AskInput left is = cc
 not_spent goals.Done left is = cc
 not_spent goals.Spent left is = cc
 
@@ -30,6 +34,14 @@ pub record IsNext (spec : RoomSpec) (fields : Fields) (own : Own) (p k value : �
   pub action : action_of spec reading ≡ actions.Write value
   pub process : p ≡ reading.process
   pub round : k ≡ current_round reading + 1
+
+-- the turn has got the input that was agreed on, and makes its first write next
+pub record IsFirst (spec : RoomSpec) (fields : Fields) (own : Own) (p k value : ℕ) : Type 0 where
+  pub chosen : ℕ
+  pub turn : IsTurn spec own (GetInput chosen)
+  pub process : p ≡ process_on own
+  pub round : k ≡ 1
+  pub is : value ≡ first_value spec.protocol (min (fields.value chosen (process_on own) 0) greatest) (process_on own) (processes spec)
 
 same_write : (k k' value value' : ℕ) → goals.Write k value ≡ goals.Write k' value' → (k ≡ k') × (value ≡ value')
 same_write k k' value value' is = (cc, cc)
@@ -45,18 +57,32 @@ module _ (spec : RoomSpec) (fields : Fields) (own : Own) (p : ℕ) where
       (λ (e : p ≡ j). inr (e, sym (ap (λ (q : ℕ). get_or (set list j goal) q goals.Done) e ∙ get_or-set_same list j goal goals.Done below) ∙ is))
       (λ (n : p ≢ j). inl (ap (λ (l : List Goal). goal_at l p) (sym same) ∙ sym (get_or-set_other list j p goal goals.Done n) ∙ is))
 
-  no_ask : (k round value : ℕ) → goals.Ask round ≡ goals.Write k value → ⊥
-  no_ask k round value is = cc
+  no_ask : (k round value : ℕ) → asks_in round ≡ goals.Write k value → ⊥
+  no_ask k zero value is = cc
+  no_ask k (suc round) value is = cc
 
   no_done : (k value : ℕ) → goals.Done ≡ goals.Write k value → ⊥
   no_done k value is = cc
 
-  pub own_writes : (after : Own) (k value : ℕ) → Effect spec fields own after → goal_at after.mind.goals p ≡ goals.Write k value → (goal_at own.mind.goals p ≡ goals.Write k value) ⊎ IsNext spec fields own p k value
+  -- where a write that is a goal comes from
+  abbrev WrittenBy : ℕ → ℕ → Type 0
+  WrittenBy k value = (goal_at own.mind.goals p ≡ goals.Write k value) ⊎ (IsNext spec fields own p k value ⊎ IsFirst spec fields own p k value)
+
+  first_by : (chosen k value : ℕ) → IsTurn spec own (GetInput chosen) → (goal_at own.mind.goals p ≡ goals.Write k value) ⊎ ((p ≡ process_on own) × (first_write spec (min (fields.value chosen (process_on own) 0) greatest) (process_on own) ≡ goals.Write k value)) → WrittenBy k value
+  first_by chosen k value turn (inl old) = inl old
+  first_by chosen k value turn (inr new) =
+      let same = same_write 1 k (first_value spec.protocol (min (fields.value chosen (process_on own) 0) greatest) (process_on own) (processes spec)) value new.1 in
+      inr (inr (record { chosen = chosen; turn = turn; process = new.0; round = sym same.0; is = sym same.1 }))
+
+  pub own_writes : (after : Own) (k value : ℕ) → Effect spec fields own after → goal_at after.mind.goals p ≡ goals.Write k value → WrittenBy k value
   own_writes after k value (stores j k' value' rest goal count process first last) is = inl is
+  own_writes after k value (proposes j value' rest goal none unentered within kind) is = inl is
   own_writes after k value (raises turn whole begun count) is = inl is
   own_writes after k value (collects_word turn count none more) is = inl is
   own_writes after k value (collects_again turn count none last several goes) is = inl is
   own_writes after k value (scans collects turn count none last ends) is = inl is
+  own_writes after k value (gets_input chosen turn count less) is =
+      first_by chosen k value turn (set_goal own.mind.goals own.mind.process (first_write spec (min (fields.value chosen (process_on own) 0) greatest) (process_on own)) k value refl (let l = turn.long in let b = turn.process in omega arith) is)
   own_writes after k value (loads_word found turn less more) is = inl is
   own_writes after k value (shows_word turn count none more) is = inl is
   own_writes after k value (shows turn count none last) is = inl is
@@ -64,7 +90,7 @@ module _ (spec : RoomSpec) (fields : Fields) (own : Own) (p : ℕ) where
   own_writes after k value (looks turn count one) is = inl is
   own_writes after k value (leaves saw_two turn count one) is = inl is
   own_writes after k value (asks_in_vain asking asks none) is =
-      elim (set_goal asking.goals asking.process (goals.Ask (current_round asking)) k value asks.goals (let l = asks.long in let b = asks.process in omega arith) is) [ inl old ↦ inl old | inr new ↦ absurd (no_ask k (current_round asking) value new.1) ]
+      elim (set_goal asking.goals asking.process (asks_in (current_round asking)) k value asks.goals (let l = asks.long in let b = asks.process in omega arith) is) [ inl old ↦ inl old | inr new ↦ absurd (no_ask k (current_round asking) value new.1) ]
   own_writes after k value (finds asking chosen asks some) is = inl (ap (λ (l : List Goal). goal_at l p) (sym asks.goals) ∙ is)
   own_writes after k value (gathers reading reads more) is = inl (ap (λ (l : List Goal). goal_at l p) (sym reads.goals) ∙ is)
   own_writes after k value (goes_to reading given reads all action) is =
@@ -72,7 +98,7 @@ module _ (spec : RoomSpec) (fields : Fields) (own : Own) (p : ℕ) where
         | inl old ↦ inl old
         | inr new ↦
             (let next = next_goal (ltb (current_round reading) spec.rounds) (current_round reading) given k value new.1 in
-            inr (record { reading = reading; reads = reads; all = all; action = action ∙ ap (λ (v : ℕ). actions.Write v) next.1; process = new.0; round = sym next.0 }))
+            inr (inl (record { reading = reading; reads = reads; all = all; action = action ∙ ap (λ (v : ℕ). actions.Write v) next.1; process = new.0; round = sym next.0 })))
       ]
   own_writes after k value (will_decide reading decision reads all action) is = inl (ap (λ (l : List Goal). goal_at l p) (sym reads.goals) ∙ is)
   own_writes after k value (decides decision turn count) is =
@@ -88,10 +114,12 @@ module _ (spec : RoomSpec) (fields : Fields) (own : Own) (p : ℕ) where
 
   pub own_counts : (after : Own) (r : ℕ) → Effect spec fields own after → r ≤ after.step p → (r ≤ own.step p) ⊎ ((own.mind.line ≡ Raise) × (p ≡ own.mind.process) × (r ≡ own.step p + 1))
   own_counts after r (stores j k value rest goal count process first last) most = inl most
+  own_counts after r (proposes j value rest goal none unentered within kind) most = inl most
   own_counts after r (raises turn whole begun count) most = raised_value r turn.stands most
   own_counts after r (collects_word turn count none more) most = inl most
   own_counts after r (collects_again turn count none last several goes) most = inl most
   own_counts after r (scans collects turn count none last ends) most = inl most
+  own_counts after r (gets_input chosen turn count less) most = inl most
   own_counts after r (loads_word found turn less more) most = inl most
   own_counts after r (shows_word turn count none more) most = inl most
   own_counts after r (shows turn count none last) most = inl most
@@ -109,35 +137,39 @@ module _ (spec : RoomSpec) (fields : Fields) (own : Own) (p : ℕ) where
   no_rest line is is' = cc
 
   -- the store of a write changes the value of the round after those that are counted
-  pub own_values : (after : Own) (r : ℕ) → Effect spec fields own after → (r ≤ own.step p) ⊎ (own.mind.line ≡ Raise) → after.value p r ≡ own.value p r
-  own_values after r (stores j k value rest goal count process first last) (inl most) = pair_else own.value j k value p r (λ e e'. let same = ap own.step e in omega arith)
-  own_values after r (stores j k value rest goal count process first last) (inr raise) = absurd (no_rest Rest rest raise)
-  own_values after r (raises turn whole begun count) kept = refl
-  own_values after r (collects_word turn count none more) kept = refl
-  own_values after r (collects_again turn count none last several goes) kept = refl
-  own_values after r (scans collects turn count none last ends) kept = refl
-  own_values after r (loads_word found turn less more) kept = refl
-  own_values after r (shows_word turn count none more) kept = refl
-  own_values after r (shows turn count none last) kept = refl
-  own_values after r (enters turn count none) kept = refl
-  own_values after r (looks turn count one) kept = refl
-  own_values after r (leaves saw_two turn count one) kept = refl
-  own_values after r (asks_in_vain asking asks none) kept = refl
-  own_values after r (finds asking chosen asks some) kept = refl
-  own_values after r (gathers reading reads more) kept = refl
-  own_values after r (goes_to reading given reads all action) kept = refl
-  own_values after r (will_decide reading decision reads all action) kept = refl
-  own_values after r (decides decision turn count) kept = refl
+  pub own_values : (after : Own) (r : ℕ) → Effect spec fields own after → 1 ≤ r → (r ≤ own.step p) ⊎ (own.mind.line ≡ Raise) → after.value p r ≡ own.value p r
+  own_values after r (stores j k value rest goal count process first last) low (inl most) = pair_else own.value j k value p r (λ e e'. let same = ap own.step e in omega arith)
+  own_values after r (stores j k value rest goal count process first last) low (inr raise) = absurd (no_rest Rest rest raise)
+  own_values after r (proposes j value rest goal none unentered within kind) low kept = pair_else own.value j 0 value p r (λ e e'. omega (arith, low, e'))
+  own_values after r (raises turn whole begun count) low kept = refl
+  own_values after r (collects_word turn count none more) low kept = refl
+  own_values after r (collects_again turn count none last several goes) low kept = refl
+  own_values after r (scans collects turn count none last ends) low kept = refl
+  own_values after r (gets_input chosen turn count less) low kept = refl
+  own_values after r (loads_word found turn less more) low kept = refl
+  own_values after r (shows_word turn count none more) low kept = refl
+  own_values after r (shows turn count none last) low kept = refl
+  own_values after r (enters turn count none) low kept = refl
+  own_values after r (looks turn count one) low kept = refl
+  own_values after r (leaves saw_two turn count one) low kept = refl
+  own_values after r (asks_in_vain asking asks none) low kept = refl
+  own_values after r (finds asking chosen asks some) low kept = refl
+  own_values after r (gathers reading reads more) low kept = refl
+  own_values after r (goes_to reading given reads all action) low kept = refl
+  own_values after r (will_decide reading decision reads all action) low kept = refl
+  own_values after r (decides decision turn count) low kept = refl
 
   -- what stands at Raise has stored the write of its goal
   pub own_stored : (after : Own) (k value : ℕ) → Effect spec fields own after → after.mind.line ≡ Raise → current_goal after.mind ≡ goals.Write k value → after.value after.mind.process k ≡ value
   own_stored after k value (stores j k' value' rest goal count process first last) is at =
       let same = same_write k' k value' value (sym goal ∙ at) in
       ap (λ (q : ℕ). changed_pair own.value j k' value' j q) (sym same.0) ∙ pair_here own.value j k' value' ∙ same.1
+  own_stored after k value (proposes j value' rest goal none unentered within kind) is at = absurd cc
   own_stored after k value (raises turn whole begun count) is at = absurd cc
   own_stored after k value (collects_word turn count none more) is at = absurd cc
   own_stored after k value (collects_again turn count none last several goes) is at = absurd cc
   own_stored after k value (scans collects turn count none last ends) is at = absurd cc
+  own_stored after k value (gets_input chosen turn count less) is at = absurd cc
   own_stored after k value (loads_word found turn less more) is at = absurd cc
   own_stored after k value (shows_word turn count none more) is at = absurd cc
   own_stored after k value (shows turn count none last) is at = absurd cc
@@ -145,7 +177,7 @@ module _ (spec : RoomSpec) (fields : Fields) (own : Own) (p : ℕ) where
   own_stored after k value (looks turn count one) is at = absurd cc
   own_stored after k value (leaves saw_two turn count one) is at = absurd cc
   own_stored after k value (asks_in_vain asking asks none) is at = absurd cc
-  own_stored after k value (finds asking chosen asks some) is at = absurd cc
+  own_stored after k value (finds asking chosen asks some) is at = absurd (gets_not (current_round asking) chosen Raise refl is)
   own_stored after k value (gathers reading reads more) is at = absurd cc
   own_stored after k value (goes_to reading given reads all action) is at = absurd cc
   own_stored after k value (will_decide reading decision reads all action) is at = absurd cc
@@ -168,10 +200,12 @@ module _ (spec : RoomSpec) (fields : Fields) (own : Own) (p : ℕ) where
 
   pub own_decided : (after : Own) (d : ℕ) → Effect spec fields own after → HasDecided own p → after.out p ≡ d + 1 → ((own.out p ≡ d + 1) × (after.step p ≡ own.step p)) ⊎ ((own.mind.line ≡ Out d) × (p ≡ own.mind.process) × (after.step p ≡ round_on own))
   own_decided after d (stores j k value rest goal count process first last) was out = inl (out, refl)
+  own_decided after d (proposes j value rest goal none unentered within kind) was out = inl (out, refl)
   own_decided after d (raises turn whole begun count) was out = inl (out, raised_else d turn.left was out)
   own_decided after d (collects_word turn count none more) was out = inl (out, refl)
   own_decided after d (collects_again turn count none last several goes) was out = inl (out, refl)
   own_decided after d (scans collects turn count none last ends) was out = inl (out, refl)
+  own_decided after d (gets_input chosen turn count less) was out = inl (out, refl)
   own_decided after d (loads_word found turn less more) was out = inl (out, refl)
   own_decided after d (shows_word turn count none more) was out = inl (out, refl)
   own_decided after d (shows turn count none last) was out = inl (out, refl)
@@ -196,18 +230,28 @@ module _ (spec : RoomSpec) (fields : Fields) (own : Own) (p : ℕ) where
       (λ (e : p ≡ j). inr (e, sym (ap (λ (q : ℕ). get_or (set list j goal) q goals.Done) e ∙ get_or-set_same list j goal goals.Done below) ∙ is))
       (λ (n : p ≢ j). inl (ap (λ (l : List Goal). goal_at l p) (sym same) ∙ sym (get_or-set_other list j p goal goals.Done n) ∙ is))
 
-  ask_spent : (round : ℕ) → goals.Ask round ≡ goals.Spent → ⊥
-  ask_spent round is = cc
+  ask_spent : (round : ℕ) → asks_in round ≡ goals.Spent → ⊥
+  ask_spent zero is = cc
+  ask_spent (suc round) is = cc
+
+  write_spent : (k value : ℕ) → goals.Write k value ≡ goals.Spent → ⊥
+  write_spent k value is = cc
 
   done_spent : goals.Done ≡ goals.Spent → ⊥
   done_spent is = cc
 
   pub own_spent : (after : Own) → Effect spec fields own after → goal_at after.mind.goals p ≡ goals.Spent → ((goal_at own.mind.goals p ≡ goals.Spent) × (after.step p ≡ own.step p)) ⊎ ((value : ℕ) × (after.step p ≡ own.step p) × IsNext spec fields own p (own.step p + 1) value)
   own_spent after (stores j k value rest goal count process first last) is = inl (is, refl)
+  own_spent after (proposes j value rest goal none unentered within kind) is = inl (is, refl)
   own_spent after (raises turn whole begun count) is = inl (is, raised_spent turn.left is)
   own_spent after (collects_word turn count none more) is = inl (is, refl)
   own_spent after (collects_again turn count none last several goes) is = inl (is, refl)
   own_spent after (scans collects turn count none last ends) is = inl (is, refl)
+  own_spent after (gets_input chosen turn count less) is =
+      elim (set_spent own.mind.goals own.mind.process (first_write spec (min (fields.value chosen (process_on own) 0) greatest) (process_on own)) refl (let l = turn.long in let b = turn.process in omega arith) is) [
+        | inl old ↦ inl (old, refl)
+        | inr new ↦ absurd (write_spent 1 (first_value spec.protocol (min (fields.value chosen (process_on own) 0) greatest) (process_on own) (processes spec)) new.1)
+      ]
   own_spent after (loads_word found turn less more) is = inl (is, refl)
   own_spent after (shows_word turn count none more) is = inl (is, refl)
   own_spent after (shows turn count none last) is = inl (is, refl)
@@ -215,7 +259,7 @@ module _ (spec : RoomSpec) (fields : Fields) (own : Own) (p : ℕ) where
   own_spent after (looks turn count one) is = inl (is, refl)
   own_spent after (leaves saw_two turn count one) is = inl (is, refl)
   own_spent after (asks_in_vain asking asks none) is =
-      elim (set_spent asking.goals asking.process (goals.Ask (current_round asking)) asks.goals (let l = asks.long in let b = asks.process in omega arith) is) [ inl old ↦ inl (old, refl) | inr new ↦ absurd (ask_spent (current_round asking) new.1) ]
+      elim (set_spent asking.goals asking.process (asks_in (current_round asking)) asks.goals (let l = asks.long in let b = asks.process in omega arith) is) [ inl old ↦ inl (old, refl) | inr new ↦ absurd (ask_spent (current_round asking) new.1) ]
   own_spent after (finds asking chosen asks some) is = inl (ap (λ (l : List Goal). goal_at l p) (sym asks.goals) ∙ is, refl)
   own_spent after (gathers reading reads more) is = inl (ap (λ (l : List Goal). goal_at l p) (sym reads.goals) ∙ is, refl)
   own_spent after (goes_to reading given reads all action) is =

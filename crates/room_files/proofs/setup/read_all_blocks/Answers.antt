@@ -20,9 +20,9 @@ loop-block-preserved g c =
     let inv = c.loop-block.invariant in
     let positive = positive_len rest len front.0 in
     let within = within_text rest len (sym front.0) in
-    let taken = c.in_ok-take.ensures.block ∙ ap (after_block c.loop-block.setup) front.1 in
+    let taken = c.in_ok-take.ensures.block ∙ ap (after_block c.args.kinds c.loop-block.setup) front.1 in
     let passed = subst (λ (bytes : List ℕ). c.take.new.self.line ≤ c.loop-block.setup.line + length bytes) front.1 c.in_ok-take.ensures.line in
-    let next = step_all inv.0 c.loop-block.setup c.take.new.self rest _ len inv.1 (omega (arith, positive, within)) (sym (ap (or_all rest) front.0)) positive within taken (behind rest len _ refl) in (
+    let next = step_all c.args.kinds inv.0 c.loop-block.setup c.take.new.self rest _ len inv.1 (omega (arith, positive, within)) (sym (ap (or_all rest) front.0)) positive within taken (behind rest len _ refl) in (
       next.0,
       next.1,
       inv.2 ∙ next.2,
@@ -39,14 +39,14 @@ pub returns-then-is_empty : goal.returns-then-is_empty
 returns-then-is_empty g c =
     let inv = c.loop-block.invariant in
     let none : length c.loop-block.rest.now ≡ 0 = grind (arith, rules) in
-    record { read = sym (inv.2 ∙ all_taken inv.0 c.loop-block.setup c.loop-block.rest.now none); lacks = tt }
+    record { read = sym (inv.2 ∙ all_taken c.args.kinds inv.0 c.loop-block.setup c.loop-block.rest.now none); lacks = tt }
 
 pub returns : goal.returns
 returns g c =
     let inv = c.loop-block.invariant in
     let rest = c.loop-block.rest.now in
     let some = bytes_left (length rest) c.is_empty.result c.is_empty.ensures c.if-is_empty.false in
-    record { read = sym (inv.2 ∙ rest_refused inv.0 c.loop-block.setup c.refuse_rest.new.self rest inv.1 some c.in_default.ensures.none c.in_ok-refuse_rest.ensures); lacks = tt }
+    record { read = sym (inv.2 ∙ rest_refused c.args.kinds inv.0 c.loop-block.setup c.refuse_rest.new.self rest inv.1 some c.in_default.ensures.none c.in_ok-refuse_rest.ensures); lacks = tt }
 
 if_err : {T E : Type 0} {P : Type 0} (result : Result T E) → P → IfErr result (λ fault. P)
 if_err (Ok value) holds = tt

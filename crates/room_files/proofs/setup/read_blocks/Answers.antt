@@ -25,9 +25,9 @@ loop-rest-preserved g c =
     let some = positive_len rest len front.0 in
     let within = within_text rest len (sym front.0) in
     let other = subst (λ line. bytes_eq line (codes "events") ≡ false) c.cut_near.ensures.before (search rules) in
-    let taken = c.in_ok-take.ensures.block ∙ ap (after_block c.loop-rest.setup) front.1 in
+    let taken = c.in_ok-take.ensures.block ∙ ap (after_block c.args.kinds c.loop-rest.setup) front.1 in
     let passed = subst (λ (bytes : List ℕ). c.take.new.self.line ≤ c.loop-rest.setup.line + length bytes) front.1 c.in_ok-take.ensures.line in
-    let next = step_blocks inv.0 c.loop-rest.setup c.take.new.self rest _ len inv.1 some within other front.0 taken (behind rest len _ refl) in (
+    let next = step_blocks c.args.kinds inv.0 c.loop-rest.setup c.take.new.self rest _ len inv.1 some within other front.0 taken (behind rest len _ refl) in (
       next.0,
       next.1,
       inv.2 ∙ next.2,
@@ -51,7 +51,7 @@ loop-rest-init g c =
     let input = c.args.input.now in
     let begun = c.requires.new in
     let first : c.args.setup.line ≡ 1 = ap (λ (setup : Setup). setup.line) begun in
-    (length input, omega arith, ap (λ (setup : Setup). blocks_from (suc (length input)) setup input) (sym begun), omega (arith, first), inl refl)
+    (length input, omega arith, ap (λ (setup : Setup). blocks_from c.args.kinds (suc (length input)) setup input) (sym begun), omega (arith, first), inl refl)
 
 pub returns-then-eq-clause-fits : goal.returns-then-eq-clause-fits
 returns-then-eq-clause-fits g c = grind (arith, common_steps)

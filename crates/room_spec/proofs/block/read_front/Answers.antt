@@ -1,7 +1,7 @@
 use Rattle.std.proofs.Common.{◌≡◌, ◌∙◌, ℕ, List, length, take, Some, Ok, ap, inl, sym, rules}
 use Rattle.std.proofs.lemmas.Result.{err_from_is_err_and}
 use Rattle.room_spec.specs.Blocks.{block_len}
-use Rattle.room_spec.specs.Blocks.{MayLackAt, block_in}
+use Rattle.room_spec.specs.Blocks.{MayLackAt, block_in, protocol_text_in, room_in}
 use Rattle.room_spec.proofs.Fronts.{front_lacks, front_says}
 use Rattle.room_spec.proofs.Memory.{lacks_also}
 use Rattle.room_spec.proofs.block.read_front.Goals as goal
@@ -13,7 +13,7 @@ returns-in_err-spec-clause-exact c =
     let len : block_len text ≡ Some (length block) = search rules in
     let front : block ≡ take (length block) text = search rules in
     let p = err_from_is_err_and c.from_residual-in_err-spec.result c.from_residual-in_err-spec.ensures.1 in
-    rw (p.1, p.2, ← front_says text block len front) (lacks_also (MayLackAt block) (MayLackAt text) _ (block_in block) (front_lacks text block len front) c.in_err-spec.ensures)
+    rw (p.1, p.2, ← front_says room_in text block len front) (lacks_also (MayLackAt block) (MayLackAt text) _ (block_in block) (front_lacks protocol_text_in text block len front) c.in_err-spec.ensures)
 
 pub returns-clause-exact : goal.returns-clause-exact
 returns-clause-exact c =
@@ -22,4 +22,4 @@ returns-clause-exact c =
     let len : block_len text ≡ Some (length block) = search rules in
     let front : block ≡ take (length block) text = search rules in
     inl
-    (ap (λ (bytes : List ℕ). Ok (c.in_ok-spec.spec, length bytes)) c.block.view_is ∙ sym c.in_ok-spec.ensures ∙ front_says text block len front)
+    (ap (λ (bytes : List ℕ). Ok (c.in_ok-spec.spec, length bytes)) c.block.view_is ∙ sym c.in_ok-spec.ensures ∙ front_says room_in text block len front)

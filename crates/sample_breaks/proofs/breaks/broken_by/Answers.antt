@@ -13,7 +13,7 @@ returns-in-None c =
         settled = c.in_ok-room.ensures;
         events = events;
         history = λ fields are. c.in_ok-events.ensures.fields fields are;
-        is_run = c.in_ok-events.ensures.run;
+        is_run = c.in_ok-events.ensures.of_room;
         kept_is = is_kept _ (none_broken c.args.judging.now.task.now settled.room.spec c.spec.result.now events c.as_slice.result.now c.first_broken.result c.spec.ensures.value c.as_slice.ensures.value c.in-None.is c.first_broken.ensures.none);
       },
       refl,
@@ -30,7 +30,7 @@ returns c =
         settled = c.in_ok-room.ensures;
         events = events;
         history = λ fields are. c.in_ok-events.ensures.fields fields are;
-        is_run = c.in_ok-events.ensures.run;
+        is_run = c.in_ok-events.ensures.of_room;
         kept_is = is_not _ (some_broken c.args.judging.now.task.now settled.room.spec c.spec.result.now events c.as_slice.result.now c.first_broken.result _ c.spec.ensures.value c.as_slice.ensures.value c.in-Some.is c.first_broken.ensures.some);
       },
       refl,

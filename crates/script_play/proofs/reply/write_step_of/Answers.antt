@@ -1,4 +1,3 @@
-use Rattle.std.proofs.Common.{◌≡◌, decimal}
 use Rattle.std.proofs.lemmas.Fmt.{decimal_digit}
 use Rattle.script_play.proofs.reply.write_step_of.Goals as goal
 

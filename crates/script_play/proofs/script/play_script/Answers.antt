@@ -30,7 +30,7 @@ loop-entry-preserved g c =
       next.1,
       next.2,
       omega (arith, few, within, c.lines-number.ensures),
-      done-push inv.1 inv.2 there.0 plays.0 inv.6 plays.1,
+      done-push c.args.kinds inv.1 inv.2 there.0 plays.0 inv.6 plays.1,
       followed-push g.F.Follows.follows [] c.args.follower inv.2 plays.0 old.service new.service old.follower new.follower inv.7 plays.2.leaves plays.2.is_followed,
       plays.2.ends ∙ ap (ending_with (ran_out_of_memory plays.0) (is_refused plays.0)) inv.8 ∙ ending-push inv.2 plays.0,
     )

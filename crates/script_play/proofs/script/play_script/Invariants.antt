@@ -9,7 +9,7 @@ use Rattle.script_play.proofs.script.play_script.Given as goal
 abbrev pub invariant-loop-entry : goal.invariant-loop-entry
 invariant-loop-entry g l =
     (most : ℕ) × (before : List Entry) × (all : List Done) × (length l.rest ≤ most) × (script_says l.script ≡ behind before (script_from most l.number l.rest)) × (l.number + length l.rest ≤ length l.script + 1)
-    × AreDone before all × AreFollowed g.F.Follows.follows [] l.fn.follower all l.player.service l.player.follower × (l.player.ending ≡ ending_of all)
+    × AreDone l.kinds before all × AreFollowed g.F.Follows.follows [] l.fn.follower all l.player.service l.player.follower × (l.player.ending ≡ ending_of all)
 
 abbrev pub decreases-loop-entry : goal.decreases-loop-entry
 decreases-loop-entry g l = length l.rest

@@ -8,7 +8,7 @@ pub returns : goal.returns
 returns c = record {
   events = c.in_ok-events.events.items;
   history = λ fields are. c.in_ok-events.ensures.fields fields are;
-  run = c.in_ok-events.ensures.run;
+  run = c.in_ok-events.ensures.of_room;
   kept = subst (λ (e : List Event). IsKeptTo c.args.task.now c.args.room.now.spec e c.first_broken.result) c.as_slice.ensures.value
       (kept_to c.args.task.now c.args.room.now.spec c.spec.result.now c.as_slice.result.now c.first_broken.result c.spec.ensures.value c.first_broken.ensures.none c.first_broken.ensures.some);
 }

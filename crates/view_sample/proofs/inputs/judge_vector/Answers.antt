@@ -1,5 +1,7 @@
-use Rattle.std.proofs.Common.{◌∙◌, ◌++◌, List, Option, ap, ℕ}
+use Rattle.std.proofs.Common.{◌∙◌, ◌++◌, List, Option, length, ap, ℕ}
 use Rattle.std.specs.Prelude.{option_map}
+use Rattle.room_files.specs.declared.kinds.Kinds.TheVariants.{Ordinary}
+use Rattle.room_files.proofs.CallerLemmas.{all_read}
 use Rattle.room_sample.specs.Shown.{Shown, shown_of}
 use Rattle.room_sample.proofs.CallerLemmas.{sample_came}
 use Rattle.view_sample.specs.Inputs.{vector_in}
@@ -23,7 +25,7 @@ returns g c =
       c.in_ok-outcomes.ensures.among,
       c.in_ok-broken.ensures,
       c.shape-shape.ensures.limits,
-      c.in_ok-spec.ensures.says,
+      all_read Ordinary c.in_ok-spec.block (spec, length c.in_ok-spec.block) c.in_ok-spec.ensures.says,
       c.has_held.ensures,
       c.in_ok-show_vector.ensures ∙ ap (λ (block : List ℕ). before ++ vector_in plan spec block inputs outcomes (option_map (λ one. shown_of one.now) c.as_ref.result)) c.as_bytes.ensures
           ∙ ap (λ (one : Option Shown). before ++ vector_in plan spec c.in_ok-spec.block inputs outcomes one) (lent_shown c.as_ref.result c.in_ok-broken.broken c.as_ref.ensures.value),

@@ -1,6 +1,7 @@
 use Rattle.std.proofs.Common.{◌∙◌, Ok, ap, refl, sym}
 use Rattle.room_files.specs.Blocks.{Setup}
 use Rattle.room_files.specs.Inputs.{blocks_in}
+use Rattle.room_files.specs.declared.kinds.Kinds.TheVariants.{All}
 use Rattle.std.specs.List.{flat_map}
 use Rattle.fault_text.specs.Refusals.{refusal_line}
 use Rattle.view_why.specs.Reported.{specs_of}
@@ -17,7 +18,7 @@ returns-clause-reported c =
     record {
       setup = setup;
       fed = reported.0;
-      says = says (blocks_in c.args.input.now) setup transcript reported.0 (c.in_ok-setup.ensures.read ∙ ap (λ (s : Setup). Ok (s, transcript)) (sym c.setup.view_is)) reported.1;
+      says = says (blocks_in All c.args.input.now) setup transcript reported.0 (c.in_ok-setup.ensures.read ∙ ap (λ (s : Setup). Ok (s, transcript)) (sym c.setup.view_is)) reported.1;
       rooms_are = c.in_ok-feed_events.ensures.rooms;
       refused_are = refl;
       reported = reported.2;

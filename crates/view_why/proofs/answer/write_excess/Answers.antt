@@ -17,7 +17,7 @@ returns c =
     let reported = c.args.reported.now in
     let event = c.event-event.result.now in
     let before = c.in_ok-before.before.items in
-    let words = c.in_ok-write_excess_words.ensures ∙ ap (λ (all : List Decision). c.put.new.self ++ excess_words c.reported.inside.spec excess.most event all) c.as_slice.ensures.value
+    let words = c.in_ok-write_excess_words.ensures ∙ ap (λ (all : List Decision). c.put.new.self ++ excess_words c.reported.inside.spec excess.most event all) c.as_slice-2.ensures.value
     ∙ ap (λ (room : ReportedRoom). c.put.new.self ++ excess_words room.spec excess.most event before) c.reported.view_is in
     two_lines c.put-2.result c.args.output.now (event_line reported.spec.name event) (excess_words reported.spec excess.most event before) c.write_event_line.new.output c.put.new.self c.write_excess_words.new.output c.put-2.new.self (IsExcessSaid reported excess.line)
     (record { excess = excess; exceeds = c.requires; line_is = refl; event = event; there = c.event-event.ensures; before = before; decided = c.in_ok-before.ensures; notes_are = refl })

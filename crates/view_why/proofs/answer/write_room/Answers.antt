@@ -10,7 +10,7 @@ pub returns : goal.returns
 returns c = λ fed is.
     let reported = c.args.reported.now in
     let reason = c.why-reason.result in
-    let excess = c.excess-excess.result in
+    let excess = c.in_ok-excess.excess in
     let verdict = verdict_of reason in
     let task = task_verdict_of reported.spec.task excess in
     let said = c.in_ok-write_said.ensures in
@@ -18,7 +18,7 @@ returns c = λ fed is.
       one = record { judged = record { room = reported.spec; verdict = verdict; task = task }; notes = said.0 };
       room = refl;
       verdict = is_verdict reported fed reason is c.why-reason.ensures.run.0 (λ broken breaks. (c.why-reason.ensures.first broken).0 breaks);
-      task = task_answer reported fed excess is c.excess-excess.ensures.keeps c.excess-excess.ensures.first;
+      task = task_answer reported fed excess is c.in_ok-excess.ensures.keeps c.in_ok-excess.ensures.first;
       because = subst (λ (room : ReportedRoom). IsReasonIn c.args.json room verdict task said.0) (reported_is reported fed is) said.1;
       written = said.2;
       well_is = c.is_well.ensures ∙ ap₂ is_well c.verdict_of-verdict.ensures (c.task_verdict_of-task.ensures ∙ ap (λ (room : ReportedRoom). task_verdict_of room.spec.task excess) c.reported.view_is);

@@ -1,4 +1,4 @@
-use Rattle.std.proofs.Common.{◌∙◌, ◌++◌, ◌∷◌, [], ℕ, List, get_or, length, ap, sym, ◌<◌, arith}
+use Rattle.std.proofs.Common.{◌∙◌, ◌++◌, ◌∷◌, [], ℕ, List, get_or, length, ap, ◌<◌, arith}
 use Rattle.room_spec.specs.Rooms.{processes}
 use Rattle.sim_memory.proofs.CallerLemmas.{row_at as row_entry, row_length}
 use Rattle.transcript.specs.declared.event.Event.{Event}

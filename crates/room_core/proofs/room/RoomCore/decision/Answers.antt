@@ -1,7 +1,7 @@
-use Rattle.std.proofs.Common.{◌≡◌, ◌<◌, ◌≤◌, ◌∙◌, ℕ, Some, ap, sym, subst, arith}
+use Rattle.std.proofs.Common.{◌≡◌, ◌<◌, ◌≤◌, ◌∙◌, ℕ, ap, sym, subst, arith}
 use Rattle.simulator.specs.Minds.{MindState}
 use Rattle.room_core.specs.Agreements.{IsDecisionOf}
-use Rattle.room_core.specs.Calls.{RoomState, configuration_of, decision_at}
+use Rattle.room_core.specs.Calls.{RoomState, configuration_of}
 use Rattle.room_core.specs.Rooms.{IsRoom}
 use Rattle.room_core.proofs.fields.FieldCalls.{has_fields}
 use Rattle.room_core.proofs.settling.Decisions.{absent_decision, decision_of, same_decision, stays_over}

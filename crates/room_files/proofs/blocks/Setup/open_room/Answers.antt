@@ -1,8 +1,9 @@
-use Rattle.std.proofs.Common.{◌≡◌, ◌∙◌, ℕ, List, false, true, sym, ap}
+use Rattle.std.proofs.Common.{◌≡◌, ◌∙◌, ℕ, List, length, false, true, sym, ap}
 use Rattle.indexmap.proofs.MapLemmas.{OnOk-map}
 use Rattle.history_checker.specs.Verdicts.{has_room}
 use Rattle.room_files.specs.Blocks.{Setup, open_room}
 use Rattle.room_files.proofs.BlockSteps.{opened_name, refused_name, still_unfed}
+use Rattle.room_files.proofs.AllKinds.{all_read}
 use Rattle.room_files.proofs.blocks.Setup.open_room.Goals as goal
 
 pub returns-clause-room : goal.returns-clause-room
@@ -19,3 +20,6 @@ returns-then-has-clause-room g c =
 
 pub invariant_of-self : goal.invariant_of-self
 invariant_of-self g c = still_unfed g.R.Opens.is_unfed c.self.inside.rooms c.push.new.self c.push.result c.push.ensures.unfed c.push.ensures.err c.self.invariant
+
+pub push-requires-clause-block : goal.push-requires-clause-block
+push-requires-clause-block g c = all_read c.args.kinds c.args.block.now (c.args.spec, length c.args.block.now) c.requires

@@ -1,6 +1,6 @@
 use Rattle.std.proofs.Common.{inl, inr, sym, subst}
 use Rattle.room_spec.specs.Rooms.{processes}
-use Rattle.run_search.specs.Outcomes.{IsRunOutcome}
+use Rattle.room_outcomes.specs.Ends.{IsRoomOutcome}
 use Rattle.room_outcomes.specs.Ends.{ends_of}
 use Rattle.room_search.specs.Beginnings.{begun}
 use Rattle.room_search.proofs.Going.{begun_spec}
@@ -27,6 +27,6 @@ returns-clause-taking c =
       ];
       among = λ other there. elim (c.in_ok-keep.ensures.new other there) [
         | inl before ↦ c.requires.taking.among other before
-        | inr now ↦ subst (λ s. IsRunOutcome spec (processes spec) (ends_of s.items)) (sym now.0) (room_among spec room fields.0 states.items limits same_spec fields.1 read)
+        | inr now ↦ subst (λ s. IsRoomOutcome spec (processes spec) (ends_of s.items)) (sym now.0) (room_among spec room fields.0 states.items limits same_spec fields.1 read)
       ];
     }

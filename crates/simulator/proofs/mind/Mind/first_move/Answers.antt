@@ -7,6 +7,7 @@ use Rattle.simulator.specs.declared.goal.Goal.TheVariants.{Write, Done}
 use Rattle.simulator.specs.declared.operation.Move.{Move}
 use Rattle.simulator.specs.Minds.{MindState, goal_at, next_process}
 use Rattle.simulator.specs.Moves.{first_move, first_move_at}
+use Rattle.room_spec.specs.Sizes.{sizes_in}
 use Rattle.simulator.specs.Ranges.{IsGoal}
 use Rattle.simulator.proofs.Processes.{found_there, shown_is_left}
 use Rattle.simulator.proofs.mind.Mind.first_move.Goals as goal
@@ -41,4 +42,4 @@ pub first_move_at-requires-clause-round : goal.first_move_at-requires-clause-rou
 first_move_at-requires-clause-round c =
     let left = shown_is_left (the_view c.self.inside) c.args.self.now c.as_slice.result.now c.process.result c.next_process.result c.in-Some.process c.self.view_is (omega (arith, c.requires.1.process, c.requires.1.goals)) c.as_slice.ensures.value c.process.ensures c.next_process.ensures c.in-Some.is in
     let below = first_move_at-requires-clause-process c in
-    subst (λ (goal : Goal). IsGoal c.args.spec.now.rounds goal) (ap (λ (m : MindState). goal_at m.goals c.in-Some.process) (sym c.self.view_is) ∙ get_or_default c.self.inside.goals.items c.in-Some.process Done (Write 0 0) left.below ∙ ap (λ (l : List Goal). get_or l c.in-Some.process (Write 0 0)) (sym c.deref.ensures.0)) (c.requires.1.rounds c.in-Some.process below)
+    subst (λ (goal : Goal). IsGoal (sizes_in c.args.spec.now) goal) (ap (λ (m : MindState). goal_at m.goals c.in-Some.process) (sym c.self.view_is) ∙ get_or_default c.self.inside.goals.items c.in-Some.process Done (Write 0 0) left.below ∙ ap (λ (l : List Goal). get_or l c.in-Some.process (Write 0 0)) (sym c.deref.ensures.0)) (c.requires.1.rounds c.in-Some.process below)

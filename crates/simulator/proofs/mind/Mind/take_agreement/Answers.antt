@@ -47,10 +47,10 @@ returns-clause-wants g c =
     let one = entered g.M.Memory.serves g.M.Memory.does g.met.M.Memory.goes_on c.args.room.now.context.now c.args.room.now.spec.now c.args.self.now c.args.part.now c.requires.part c.args.memory.now c.requires.wants c.operate.new.self c.enter.result c.operate.result c.operate.ensures c.enter.ensures in
     let two = looked g.M.Memory.serves g.M.Memory.does g.met.M.Memory.goes_on c.args.room.now.context.now c.args.room.now.spec.now c.args.self.now c.args.part.now c.requires.part c.args.memory.now c.requires.wants c.operate.new.self c.operate-levels.new.self c.look.result c.operate-levels.result c.m.result c.has_level-saw_two.result one c.operate-levels.ensures c.look.ensures c.m.ensures.value c.has_level-saw_two.ensures in
     let three = left g.M.Memory.serves g.M.Memory.does g.met.M.Memory.goes_on c.args.room.now.context.now c.args.room.now.spec.now c.args.self.now c.args.part.now c.requires.part c.args.memory.now c.requires.wants c.operate-levels.new.self c.operate-2.new.self c.leave.result c.operate-2.result c.has_level-saw_two.result two c.operate-2.ensures c.leave.ensures in
-    let end = c.ask-turn.new.self in
-    let mind_is = ap (λ (line : Line). at_line line end) c.current_line.ensures ∙ c.ask-turn.ensures.mind ∙ ap (λ (mind : MindState). (asked c.chosen_in.result mind).mind) c.count_steps.ensures in
-    let turn_is = c.ask-turn.ensures.turn ∙ ap (λ (mind : MindState). (asked c.chosen_in.result mind).turn) c.count_steps.ensures in
-    let four = asked_last g.M.Memory.serves g.M.Memory.does g.met.M.Memory.goes_on c.args.room.now.context.now c.args.room.now.spec.now c.args.self.now c.args.part.now c.requires.part c.args.memory.now c.requires.wants c.operate-2.new.self c.operate-answer.new.self c.look-2.result c.operate-answer.result end c.chosen_in.result c.ask-turn.result c.current_line.result three c.operate-answer.ensures c.look-2.ensures c.chosen_in.ensures mind_is turn_is in
+    let end = c.ask_view-turn.new.self in
+    let mind_is = ap (λ (line : Line). at_line line end) c.current_line.ensures ∙ c.ask_view-turn.ensures.mind ∙ ap (λ (mind : MindState). (asked c.chosen_in.result mind).mind) c.count_steps.ensures in
+    let turn_is = c.ask_view-turn.ensures.turn ∙ ap (λ (mind : MindState). (asked c.chosen_in.result mind).turn) c.count_steps.ensures in
+    let four = asked_last g.M.Memory.serves g.M.Memory.does g.met.M.Memory.goes_on c.args.room.now.context.now c.args.room.now.spec.now c.args.self.now c.args.part.now c.requires.part c.args.memory.now c.requires.wants c.operate-2.new.self c.operate-answer.new.self c.look-2.result c.operate-answer.result end c.chosen_in.result c.ask_view-turn.result c.current_line.result three c.operate-answer.ensures c.look-2.ensures c.chosen_in.ensures mind_is turn_is in
     four.wants
 
 pub returns-clause-continues : goal.returns-clause-continues
@@ -58,8 +58,8 @@ returns-clause-continues g c =
     let one = entered g.M.Memory.serves g.M.Memory.does g.met.M.Memory.goes_on c.args.room.now.context.now c.args.room.now.spec.now c.args.self.now c.args.part.now c.requires.part c.args.memory.now c.requires.wants c.operate.new.self c.enter.result c.operate.result c.operate.ensures c.enter.ensures in
     let two = looked g.M.Memory.serves g.M.Memory.does g.met.M.Memory.goes_on c.args.room.now.context.now c.args.room.now.spec.now c.args.self.now c.args.part.now c.requires.part c.args.memory.now c.requires.wants c.operate.new.self c.operate-levels.new.self c.look.result c.operate-levels.result c.m.result c.has_level-saw_two.result one c.operate-levels.ensures c.look.ensures c.m.ensures.value c.has_level-saw_two.ensures in
     let three = left g.M.Memory.serves g.M.Memory.does g.met.M.Memory.goes_on c.args.room.now.context.now c.args.room.now.spec.now c.args.self.now c.args.part.now c.requires.part c.args.memory.now c.requires.wants c.operate-levels.new.self c.operate-2.new.self c.leave.result c.operate-2.result c.has_level-saw_two.result two c.operate-2.ensures c.leave.ensures in
-    let end = c.ask-turn.new.self in
-    let mind_is = ap (λ (line : Line). at_line line end) c.current_line.ensures ∙ c.ask-turn.ensures.mind ∙ ap (λ (mind : MindState). (asked c.chosen_in.result mind).mind) c.count_steps.ensures in
-    let turn_is = c.ask-turn.ensures.turn ∙ ap (λ (mind : MindState). (asked c.chosen_in.result mind).turn) c.count_steps.ensures in
-    let four = asked_last g.M.Memory.serves g.M.Memory.does g.met.M.Memory.goes_on c.args.room.now.context.now c.args.room.now.spec.now c.args.self.now c.args.part.now c.requires.part c.args.memory.now c.requires.wants c.operate-2.new.self c.operate-answer.new.self c.look-2.result c.operate-answer.result end c.chosen_in.result c.ask-turn.result c.current_line.result three c.operate-answer.ensures c.look-2.ensures c.chosen_in.ensures mind_is turn_is in
+    let end = c.ask_view-turn.new.self in
+    let mind_is = ap (λ (line : Line). at_line line end) c.current_line.ensures ∙ c.ask_view-turn.ensures.mind ∙ ap (λ (mind : MindState). (asked c.chosen_in.result mind).mind) c.count_steps.ensures in
+    let turn_is = c.ask_view-turn.ensures.turn ∙ ap (λ (mind : MindState). (asked c.chosen_in.result mind).turn) c.count_steps.ensures in
+    let four = asked_last g.M.Memory.serves g.M.Memory.does g.met.M.Memory.goes_on c.args.room.now.context.now c.args.room.now.spec.now c.args.self.now c.args.part.now c.requires.part c.args.memory.now c.requires.wants c.operate-2.new.self c.operate-answer.new.self c.look-2.result c.operate-answer.result end c.chosen_in.result c.ask_view-turn.result c.current_line.result three c.operate-answer.ensures c.look-2.ensures c.chosen_in.ensures mind_is turn_is in
     four.continues

@@ -1,4 +1,6 @@
 use Rattle.std.proofs.Common.{◌≡◌, ◌∙◌, List, Option, Some, ap, sym, subst}
+use Rattle.ws_history.specs.Inputs.{IsRoomRun}
+use Rattle.room_core.specs.Agreements.{run_spec}
 use Rattle.transcript.specs.Runs.{IsRun}
 use Rattle.transcript.specs.declared.event.Event.{Event}
 use Rattle.ws_history.specs.Linearizations.{LackAtMostASnapshot, events_of}
@@ -19,6 +21,7 @@ returns c =
       timed = c.in_ok-timed.timed.entries;
       at_steps = c.in_ok-timed.ensures.at_steps schedule are;
       events_are = events_are;
-      run = subst (IsRun room.spec) (sym events_are) (c.in_ok-timed.ensures.run schedule are);
+      run = λ fields of. subst (IsRun (run_spec room.spec fields)) (sym events_are) (c.in_ok-timed.ensures.run schedule fields are of);
+      own = subst (IsRoomRun room.spec) (sym events_are) (c.in_ok-timed.ensures.of_room schedule are);
       same = λ fields of p low. subst (λ (events : List Event). LackAtMostASnapshot p (events_of p (history_of room.spec fields)) (events_of p events)) (sym events_are) (c.in_ok-timed.ensures.same schedule fields are of p low);
     })

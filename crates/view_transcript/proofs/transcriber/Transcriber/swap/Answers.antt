@@ -1,7 +1,7 @@
-use Rattle.std.proofs.Common.{◌≡◌, ◌∙◌, Some, is_some, ap, sym}
+use Rattle.std.proofs.Common.{◌∙◌, Some, is_some, ap, sym}
 use Rattle.indexmap.specs.IndexMap.{set_value_at}
 use Rattle.indexmap.proofs.CallerLemmas.{keys-with_value_at, updates-with_value_at}
-use Rattle.view_transcript.specs.Transcripts.{IsSwapped, kept_at}
+use Rattle.view_transcript.specs.Transcripts.{kept_at}
 use Rattle.view_transcript.proofs.Lookups.{Changes, changed_here, changed_other, entry_there, names_equal, no_kept}
 use Rattle.view_transcript.proofs.Looking.{swapped_here, swapped_nowhere}
 use Rattle.view_transcript.proofs.transcriber.Transcriber.swap.Goals as goal

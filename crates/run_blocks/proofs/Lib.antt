@@ -1,0 +1,7 @@
+pub mod CallerLemmas
+mod OrdinaryBlocks
+mod OtherInputs
+mod ReadingBlocks
+mod RoomBlocks
+mod RunBlocks
+mod WorkedBlocks

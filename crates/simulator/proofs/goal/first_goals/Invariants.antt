@@ -1,5 +1,0 @@
-use Rattle.simulator.proofs.Processes.{AreFirst}
-use Rattle.simulator.proofs.goal.first_goals.Given as goal
-
-abbrev pub invariant-loop-process : goal.invariant-loop-process
-invariant-loop-process l = AreFirst l.spec l.goals.items l.process

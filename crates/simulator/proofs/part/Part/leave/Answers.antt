@@ -1,5 +1,0 @@
-use Rattle.std.proofs.Common.{rules}
-use Rattle.simulator.proofs.part.Part.leave.Goals as goal
-
-pub returns-then-saw_two : goal.returns-then-saw_two
-returns-then-saw_two c = search rules
