@@ -86,8 +86,11 @@ void bgview_draw(const uint8_t *script, size_t length, uint32_t percent, bool by
 /* bgview transcript: a script's rooms as a transcript, with the events in the order in which they took effect. */
 void bgview_transcript(const uint8_t *script, size_t length, uint8_t *output, size_t size, struct bgview_result *result);
 
-/* bgview grade: whether the last report of a script satisfies a goal, with at most `most` commands `step` and `crash`. */
+/* bgview grade: whether the last report of a script satisfies a goal, with at most `most` commands `step` and `crash`. With _json: the same answer as an object of
+   JSON. */
 void bgview_grade(const uint8_t *script, size_t length, const uint8_t *goal, size_t goal_length, uint32_t most, uint8_t *output, size_t size, struct bgview_result *result);
+void bgview_grade_json(const uint8_t *script, size_t length, const uint8_t *goal, size_t goal_length, uint32_t most, uint8_t *output, size_t size,
+                       struct bgview_result *result);
 
 /* bgview page: a page, an HTML file, that steps through a script or a transcript in a browser. */
 void bgview_page(const uint8_t *file, size_t length, uint8_t *output, size_t size, struct bgview_result *result);

@@ -11,7 +11,7 @@ const OPTIONS = {
   inputs: [['nodes', 1000000]], keeps: [['nodes', 1000000]],
   grade: [['commands', LARGEST]],
 };
-const JSON_TOO = ['outcomes', 'task', 'inputs', 'keeps']; // with `json: true` these are calls of their own
+const JSON_TOO = ['outcomes', 'task', 'inputs', 'keeps', 'grade']; // with `json: true` these are calls of their own
 const WITH_TASK = ['why', 'page']; // and with `task` these are
 const TEXTS = { grade: 'goal', inputs: 'values', keeps: 'task' }; // the calls with a second input, and the option that has it
 // The calls whose options are a struct of C: its numbers, and after them its flags.

@@ -52,7 +52,7 @@ const MODES = [
   ['sample', 'bgview sample --schedules 20 --crashes 2 --seed 5 --group --brief --top 2', { schedules: 20, crashes: 2, seed: 5, group: true, brief: true, top: 2 }],
   ['sample', 'bgview sample --schedules 20 --json --outcome 2', { schedules: 20, json: true, outcome: 2 }],
   ['grade', 'bgview grade --commands 2 --goal spent', { commands: 2, goal: 'spent' }],
-  ['grade', 'bgview grade --goal spent_0', { goal: 'spent 0' }],
+  ['grade', 'bgview grade --goal spent_0', { goal: 'spent 0' }], ['grade', 'bgview grade --json --commands 2 --goal spent_0', { commands: 2, goal: 'spent 0', json: true }],
 ];
 
 // The line and the number of the fault that a program names: of its input, or of an option's text.

@@ -9,7 +9,7 @@
 A text of an input is `str` or `bytes`. Each function may be called by any number of threads at the same time."""
 
 from .answers import (
-    Answer, Objects, Page, Picture, check, draw, fault, grade, inputs, inputs_json, keeps, keeps_json, lint, outcomes, outcomes_json, page, play, rooms, rooms_json, sample, sample_json, task, task_json,
+    Answer, Objects, Page, Picture, check, draw, fault, grade, grade_json, inputs, inputs_json, keeps, keeps_json, lint, outcomes, outcomes_json, page, play, rooms, rooms_json, sample, sample_json, task, task_json,
     trace, trace_json, transcript, warnings, why, why_json,
 )
 from .errors import BgviewError, GoalError, InputError, OutOfMemory, Refused, TaskError, TooLong, ValuesError
@@ -17,6 +17,6 @@ from .room import Report, Room
 
 __all__ = [
     "Answer", "BgviewError", "GoalError", "InputError", "Objects", "OutOfMemory", "Page", "Picture", "Refused", "Report", "Room", "TaskError", "TooLong", "ValuesError",
-    "check", "draw", "fault", "grade", "inputs", "inputs_json", "keeps", "keeps_json", "lint", "outcomes", "outcomes_json", "page", "play", "rooms", "rooms_json", "sample", "sample_json", "task", "task_json",
+    "check", "draw", "fault", "grade", "grade_json", "inputs", "inputs_json", "keeps", "keeps_json", "lint", "outcomes", "outcomes_json", "page", "play", "rooms", "rooms_json", "sample", "sample_json", "task", "task_json",
     "trace", "trace_json", "transcript", "warnings", "why", "why_json",
 ]

@@ -240,6 +240,11 @@ def grade(script: Text, goal: Text, commands: Optional[int] = None) -> Answer:
     return Answer(*_answer("grade", script, *slice_of(goal), _unless_none("commands", commands, 1000000)))
 
 
+def grade_json(script: Text, goal: Text, commands: Optional[int] = None) -> Objects:
+    """The same, as one object. As `bgview grade --json`."""
+    return Objects(*_answer("grade_json", script, *slice_of(goal), _unless_none("commands", commands, 1000000)))
+
+
 def fault(code: int) -> str:
     """What the number of a fault means. As `bgview fault`, without the number before it."""
     return sentence(code)

@@ -44,6 +44,7 @@ MODES = {
     "bgview lint": bgview.lint,
     "bgview grade --goal": lambda text: bgview.grade(text, "held 0 or not crashed 1"),
     "bgview grade --commands 2 --goal": lambda text: bgview.grade(text, "decided 1 3", 2),
+    "bgview grade --json --goal": lambda text: bgview.grade_json(text, "decided 1 3 or not spent 0"),
 }
 TEXTS = {
     "bgview why --keeps": ["equal(mine) == count"],
@@ -51,6 +52,7 @@ TEXTS = {
     "bgview page --keeps": ["mine == min"],
     "bgview grade --goal": ["held 0 or not crashed 1"],
     "bgview grade --commands 2 --goal": ["decided 1 3"],
+    "bgview grade --json --goal": ["decided 1 3 or not spent 0"],
     "bgview outcomes --nodes 20000 --keeps": ["equal(mine) == count; given >= 2"],
     "bgview outcomes --nodes 20000 --json --keeps": ["equal(mine) == count; given >= 2"],
 }

@@ -89,14 +89,14 @@ abbrev pub kept_by : Grading → Option (List ℕ)
 kept_by grading = option_map (λ text. text.now) grading.keeps
 
 -- a script is judged by a goal, and by this task if there is one
-abbrev pub IsGradedWith : Option (List Tree) → List Claim → Option ℕ → List ℕ → Result Outcome AllocError → List ℕ → Type 0
-IsGradedWith None claims most input ending output = IsGraded claims most input ending output
-IsGradedWith (Some lines) claims most input ending output = IsKeptGrade claims most lines input ending output
+abbrev pub IsGradedWith : Bool → Option (List Tree) → List Claim → Option ℕ → List ℕ → Result Outcome AllocError → List ℕ → Type 0
+IsGradedWith json None claims most input ending output = IsGraded json claims most input ending output
+IsGradedWith json (Some lines) claims most input ending output = IsKeptGrade json claims most lines input ending output
 
 -- the script is judged by the goal that the text says, and by the task, if one is given
 unfoldable pub IsGradeFor : Grading → List ℕ → Result Outcome AllocError → List ℕ → Type 0
 IsGradeFor grading input ending output =
-    (claims : List Claim) × (goal_in (goal_text grading) ≡ Ok claims) × (task : Option (List Tree)) × IsTaskOf (kept_by grading) task × IsGradedWith task claims grading.most input ending output
+    (claims : List Claim) × (goal_in (goal_text grading) ≡ Ok claims) × (task : Option (List Tree)) × IsTaskOf (kept_by grading) task × IsGradedWith grading.json task claims grading.most input ending output
 
 -- what is said of a transcript, whose runs are judged by this task if there is one
 abbrev pub IsExplainedBy : Bool → Option (List Tree) → List ℕ → Outcome → List ℕ → Type 0

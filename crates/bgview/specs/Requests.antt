@@ -59,6 +59,7 @@ pub record IsSearchAmong (found : Option (List ℕ × List Row)) (search : Searc
 
 -- what the values of `grade` say that a script is graded by
 pub record IsGradingAmong (found : Option (List ℕ × List Row)) (grading : Grading) : Type 0 where
+  pub json : grading.json ≡ json_among found
   pub goal : grading.goal.now ≡ unwrap_or (value_among (codes "goal") found) []
   pub most : IsNumberIfAny (value_among (codes "commands") found) grading.most
   pub keeps : option_map (λ text. text.now) grading.keeps ≡ keeps_among found

@@ -25,13 +25,13 @@ pub enum OptionFault {
     Both,
     /// A task of one's own is given as a text, and in a file.
     TwoTasks,
-    /// One outcome alone is asked for, and so is whether tasks are kept.
+    /// Only one outcome is asked for, and so is whether tasks are kept.
     Alone,
     /// All schedules of the simulators are searched, and something is asked for that is none of their outcomes.
     Rooms,
     /// The outcomes that are open in the rooms of a script are asked for, and so is something that is none of them.
     Open,
-    /// A page of two files is asked for, and so is what is said of one alone: whether runs keep a task of one's own, or which outcomes are open.
+    /// A page of two files is asked for, and so is what is said of only one: whether runs keep a task of one's own, or which outcomes are open.
     Second,
     /// A page is asked for that says which outcomes are open after each command of a script, and whether runs keep a task of one's own.
     OpenTask,

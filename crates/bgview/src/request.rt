@@ -24,9 +24,11 @@ pub struct Explaining<'a> {
     pub keeps: Option<&'a [u8]>,
 }
 
-/// What a script is graded by.
+/// What a script is graded by, and how what is said of it is written.
 #[derive(Clone, Copy)]
 pub struct Grading<'a> {
+    /// Whether it is as JSON.
+    pub json: bool,
     /// The goal, as text.
     pub goal: &'a str,
     /// How many commands `step` and `crash` the script may have.
@@ -61,7 +63,7 @@ pub struct Searching<'a> {
     pub top: Option<u32>,
     /// The number of the only outcome of each room that is shown, if one is asked for.
     pub outcome: Option<u32>,
-    /// Whether the rooms' tasks alone are judged.
+    /// Whether only the rooms' tasks are judged.
     pub task: bool,
     /// The values of which inputs are made, as text, if the rooms' tasks are judged with all of them.
     pub values: Option<&'a str>,
@@ -222,6 +224,7 @@ fn grading_in<'a>(matches: &ArgMatches<'a>) -> Grading<'a>
     ensures { IsGradingAmong (subcommand_rows_of matches.now) result }
 {
     Grading {
+        json: is_given(matches, "json"),
         goal: text_among(matches, "goal"),
         most: number_if_any(matches, "commands"),
         keeps: task_if_any(matches),

@@ -38,7 +38,7 @@ use script_play::PlayText;
 use std::alloc::{AllocError, Global};
 use std::thread::Threads;
 use view_draw::draw;
-use view_grade::{Goal, goal_forms, grade, grade_kept, read_goal};
+use view_grade::{Aim, Goal, goal_forms, grade, grade_kept, read_goal};
 use view_open::{OpenPlan, open_outcomes};
 use view_outcomes::{Asked, Form, Search, search_blocks};
 use view_page::{faults_of, page, page_of_kept, page_of_open};
@@ -305,7 +305,7 @@ fn sample_or_fail<H: Threads + Sync, I, P: Progress>(
     sample_asked(system, sampling, input, aside)
 }
 
-/// Whether one outcome alone is asked for, and so is whether tasks are kept.
+/// Whether only one outcome is asked for, and so is whether tasks are kept.
 fn is_more_of_sample(sampling: &Sampling<'_>) -> bool
     ensures { result ≡ is_more_of_sample sampling.now }
 {
@@ -445,7 +445,7 @@ fn search_schedules<P: Progress>(
     Ok(whole(search_rooms(alloc, input, &plan, &mut aside.progress)?))
 }
 
-/// Whether something is asked for that is no outcome of a simulation, or one outcome alone, or the first ones.
+/// Whether something is asked for that is no outcome of a simulation, or only one outcome, or only the first ones.
 fn is_more_of_rooms(searching: &Searching<'_>) -> bool
     ensures { result ≡ is_more_of_rooms searching.now }
 {
@@ -528,7 +528,7 @@ fn search_runs<P: Progress>(
     search_asked(alloc, searching, input, aside)
 }
 
-/// Whether one outcome alone is asked for, and so is whether tasks are kept.
+/// Whether only one outcome is asked for, and so is whether tasks are kept.
 fn is_more_asked(searching: &Searching<'_>) -> bool
     ensures { result ≡ is_more_asked searching.now }
 {
@@ -689,9 +689,14 @@ fn graded(
     ensures shown { IfOk result (λ shown. IsGradeFor grading.now script.now shown.ending shown.output) }
     ensures err { IfErr result (Ends (fault_in (script_says script.now)) None) }
 {
+    let aim = Aim {
+        goal,
+        most: grading.most,
+        json: grading.json,
+    };
     match task {
-        None => Ok(grade(alloc, goal, grading.most, script)?),
-        Some(task) => Ok(grade_kept(alloc, goal, grading.most, task, script)?),
+        None => Ok(grade(alloc, &aim, script)?),
+        Some(task) => Ok(grade_kept(alloc, &aim, task, script)?),
     }
 }
 

@@ -151,9 +151,13 @@ goal_rule = record (new_rule (codes "goal")) { long = Some (codes "goal"); value
 abbrev pub commands_rule : Rule
 commands_rule = number_rule (codes "commands") 0 1000000
 
--- the subcommand `grade`, which takes a file, a goal and a number
+-- the subcommand `grade` as far as it says by which goal a script is graded: a file, a goal, a number and a flag
+abbrev pub grading_app : App
+grading_app = with_rule (with_rule (with_rule (file_app (codes "grade")) goal_rule) commands_rule) json_rule
+
+-- the subcommand `grade`, which takes two texts besides
 abbrev pub grade_app : App
-grade_app = with_own_task (with_rule (with_rule (file_app (codes "grade")) goal_rule) commands_rule)
+grade_app = with_own_task grading_app
 
 -- one value of this name at least
 abbrev pub many_rule : List ℕ → Rule

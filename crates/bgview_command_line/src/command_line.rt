@@ -4,7 +4,7 @@ ghost use Rattle.clap.specs.Kinds.{FailsBy};
 ghost use Rattle.clap.specs.declared.builder.command.Command.TheViews.{out-Command};
 ghost use Rattle.clap.specs.Words.{app_of, fault_of, new_app, subcommand_of, subcommand_rows_of, with_rule, with_subcommand};
 ghost use Rattle.clap.specs.Walk.{rule_of};
-ghost use Rattle.bgview_command_line.specs.CommandLine.{bgview_app, brief_rule, choosing_app, commands_rule, crashes_rule, draw_app, drawing_app, fault_app, file_app, from_rule, goal_rule, grade_app, group_rule, inputs_rule, json_rule, keeps_file_rule, keeps_rule, listing_app, outcome_rule, many_rule, outcomes_app, open_rule, page_app, paged_app, picking_app, plain_app, sample_app, sampling_app, scale_rule, schedules_rule, searching_app, rooms_rule, seed_rule, nodes_rule, stopped_rule, sum_app, task_rule, telling_app, top_rule, turns_rule, why_app, workers_rule};
+ghost use Rattle.bgview_command_line.specs.CommandLine.{bgview_app, brief_rule, choosing_app, commands_rule, crashes_rule, draw_app, drawing_app, fault_app, file_app, from_rule, goal_rule, grade_app, grading_app, group_rule, inputs_rule, json_rule, keeps_file_rule, keeps_rule, listing_app, outcome_rule, many_rule, outcomes_app, open_rule, page_app, paged_app, picking_app, plain_app, sample_app, sampling_app, scale_rule, schedules_rule, searching_app, rooms_rule, seed_rule, nodes_rule, stopped_rule, sum_app, task_rule, telling_app, top_rule, turns_rule, why_app, workers_rule};
 
 use clap::{Arg, ArgAction, ArgMatches, Command, Error, value_parser};
 use std::alloc::{AllocError, Global};
@@ -214,7 +214,7 @@ fn choosing_command<'a>(alloc: Global) -> Result<Command<'a>, AllocError>
     let with_group = sample.arg(group_option(alloc))?;
     let with_top = with_group.arg(top_option(
         alloc,
-        "Shows only the K most frequent outcomes of each room, and makes their scripts alone; without it, all",
+        "Shows only the K most frequent outcomes of each room, and makes only their scripts; without it, all",
     ))?;
     with_top.arg(outcome_option(
         alloc,
@@ -471,7 +471,7 @@ fn task_option<'a>(alloc: Global) -> Arg<'a>
         .long("task")
         .action(ArgAction::SetTrue)
         .help(
-            "Judges the rooms' tasks alone: lists no outcome, and stops at the first run that breaks the task",
+            "Judges only the rooms' tasks: lists no outcome, and stops at the first run that breaks the task",
         )
 }
 
@@ -524,21 +524,30 @@ fn lint_command<'a>(alloc: Global) -> Result<Command<'a>, AllocError>
     )
 }
 
-/// The subcommand `grade`, which takes a file, a goal, a number and two texts.
-fn grade_command<'a>(alloc: Global) -> Result<Command<'a>, AllocError>
-    ensures app { IfOk result (λ command. app_of command ≡ grade_app) }
+/// The subcommand `grade` as far as it says by which goal a script is graded: a file, a goal, a number and a flag.
+fn grading_command<'a>(alloc: Global) -> Result<Command<'a>, AllocError>
+    ensures app { IfOk result (λ command. app_of command ≡ grading_app) }
     ensures local { IfOk result (λ command. (out-Command command).has_globals ≡ false) }
 {
     let grade = file_command(
         alloc,
         "grade",
         "Plays a script, and says whether its last report satisfies a goal",
-        "bgview grade --goal GOAL [--commands N] [--keeps TASK | --keeps-file TASKFILE] [FILE]",
+        "bgview grade --goal GOAL [--commands N] [--json] [--keeps TASK | --keeps-file TASKFILE] [FILE]",
         "The script; without it, standard input is read",
     )?;
     let with_goal = grade.arg(goal_option(alloc))?;
     let with_commands = with_goal.arg(commands_option(alloc))?;
-    let with_task = with_commands.arg(keeps_option(
+    with_commands.arg(json_option(alloc))
+}
+
+/// The subcommand `grade`, which takes two texts besides.
+fn grade_command<'a>(alloc: Global) -> Result<Command<'a>, AllocError>
+    ensures app { IfOk result (λ command. app_of command ≡ grade_app) }
+    ensures local { IfOk result (λ command. (out-Command command).has_globals ≡ false) }
+{
+    let grading = grading_command(alloc)?;
+    let with_task = grading.arg(keeps_option(
         alloc,
         "Judges whether one of these lines holds for each process that has decided, after each decision of a room's history, whenever a command was done, as in 'mine == min; mine == max': conditions as of `bgview outcomes --keeps`",
     ))?;

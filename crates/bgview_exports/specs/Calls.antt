@@ -1,5 +1,5 @@
 -- What a call answers, and what it says of its answer.
-use Rattle.std.specs.Prelude.{◌≡◌, ⊤, ℕ, ◌+◌, ◌<◌, ◌≤◌, ◌==◌, false, if◌then◌else◌, List, [], ◌∷◌, ◌++◌, length, take, drop, Option, Some, None, Result, Ok, Err, IsOk, decimal}
+use Rattle.std.specs.Prelude.{◌≡◌, ⊤, ℕ, ◌+◌, ◌<◌, ◌≤◌, ◌==◌, Bool, false, if◌then◌else◌, List, [], ◌∷◌, ◌++◌, length, take, drop, Option, Some, None, Result, Ok, Err, IsOk, decimal}
 use Rattle.std.specs.List.{flat_map}
 use Rattle.std.specs.declared.alloc.AllocError.{AllocError}
 use Rattle.decision_tasks.specs.Tasks.{task_in}
@@ -64,14 +64,14 @@ abbrev pub IsGradeFault : List ℕ → List ℕ → InputFault → Type 0
 IsGradeFault script goal (BadInput line fault) = IsOk (goal_in goal) × (script_says script ≡ Err (line, fault))
 IsGradeFault script goal Memory = ⊤
 
--- The grade of a script by the goal that a text says; or why there is none, which may also be that it says none.
-abbrev pub IsGradeOf : List ℕ → List ℕ → Option ℕ → Result PlayText NoAnswer → Type 0
-IsGradeOf script goal most (Ok text) = (length script ≤ most_bytes) × (claims : List Claim) × (goal_in goal ≡ Ok claims) × IsGraded claims most script text.ending text.output
-IsGradeOf script goal most (Err (Fault fault)) = (length script ≤ most_bytes) × IsGradeFault script goal fault
-IsGradeOf script goal most (Err TooLong) = most_bytes < length script
-IsGradeOf script goal most (Err (BadGoal fault)) = (length script ≤ most_bytes) × (goal_in goal ≡ Err fault)
-IsGradeOf script goal most (Err (BadValues fault)) = ⊥
-IsGradeOf script goal most (Err (BadTask fault)) = ⊥
+-- The grade of a script by the goal that a text says, as JSON or as text; or why there is none, which may also be that it says none.
+abbrev pub IsGradeOf : Bool → List ℕ → List ℕ → Option ℕ → Result PlayText NoAnswer → Type 0
+IsGradeOf json script goal most (Ok text) = (length script ≤ most_bytes) × (claims : List Claim) × (goal_in goal ≡ Ok claims) × IsGraded json claims most script text.ending text.output
+IsGradeOf json script goal most (Err (Fault fault)) = (length script ≤ most_bytes) × IsGradeFault script goal fault
+IsGradeOf json script goal most (Err TooLong) = most_bytes < length script
+IsGradeOf json script goal most (Err (BadGoal fault)) = (length script ≤ most_bytes) × (goal_in goal ≡ Err fault)
+IsGradeOf json script goal most (Err (BadValues fault)) = ⊥
+IsGradeOf json script goal most (Err (BadTask fault)) = ⊥
 
 -- Rooms are searched within this many nodes of each, no run is left out, and the answer has this form.
 pub record IsSearchWithin (nodes : ℕ) (form : Form) (search : Search) : Type 0 where

@@ -37,7 +37,7 @@ use run_search::Silent;
 use script_play::{PlayText, play};
 use std::alloc::Global;
 use view_draw::draw;
-use view_grade::{grade, read_goal};
+use view_grade::{Aim, grade, read_goal};
 use view_outcomes::{Asked, Form, Search, search_blocks};
 use view_page::{page, page_of_kept};
 use view_rooms::{RoomPlan, search_rooms};
@@ -268,18 +268,26 @@ pub fn paged_with(alloc: Global, transcript: &[u8], task: &[u8]) -> Result<PlayT
     Ok(complete(page_of_kept(alloc, transcript, &task)?))
 }
 
-/// Grades a script by the goal that a text says, with at most this number of commands `step` and `crash` if there is one.
+/// Grades a script by the goal that a text says, with at most this number of commands `step` and `crash` if there is one; as JSON or as text.
 pub fn graded(
     alloc: Global,
     script: &[u8],
     goal: &[u8],
     most: Option<u32>,
+    json: bool,
 ) -> Result<PlayText, NoAnswer>
-    ensures { IsGradeOf script.now goal.now most result }
+    ensures { IsGradeOf json script.now goal.now most result }
 {
     fits(script)?;
     match read_goal(alloc, goal)? {
-        Ok(goal) => Ok(grade(alloc, &goal, most, script)?),
+        Ok(goal) => {
+            let aim = Aim {
+                goal: &goal,
+                most,
+                json,
+            };
+            Ok(grade(alloc, &aim, script)?)
+        }
         Err(fault) => Err(NoAnswer::BadGoal(fault)),
     }
 }

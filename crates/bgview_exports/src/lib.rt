@@ -382,12 +382,26 @@ pub extern "C" fn bgview_grade(
     output: &mut [u8],
     ended: &mut CallResult,
 )
-    ensures { IsGiven (IsGradeOf script.now goal.now (number_unless_largest most)) output.old output.new ended.new }
+    ensures { IsGiven (IsGradeOf false script.now goal.now (number_unless_largest most)) output.old output.new ended.new }
 {
-    *ended = give(
-        &graded(alloc, script, goal, number_unless_largest(most)),
-        output,
-    );
+    let most = number_unless_largest(most);
+    *ended = give(&graded(alloc, script, goal, most, false), output);
+}
+
+/// Says the same as [`bgview_grade`] as JSON, as `bgview grade --json`.
+#[unsafe(no_mangle)]
+pub extern "C" fn bgview_grade_json(
+    alloc: Global,
+    script: &[u8],
+    goal: &[u8],
+    most: u32,
+    output: &mut [u8],
+    ended: &mut CallResult,
+)
+    ensures { IsGiven (IsGradeOf true script.now goal.now (number_unless_largest most)) output.old output.new ended.new }
+{
+    let most = number_unless_largest(most);
+    *ended = give(&graded(alloc, script, goal, most, true), output);
 }
 
 /// Says in words what the number of a fault means, as `bgview fault`.

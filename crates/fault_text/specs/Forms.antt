@@ -1,11 +1,14 @@
 -- Forms of lines, and where a line leaves its form.
-use Rattle.std.specs.Prelude.{ℕ, zero, suc, ◌+◌, ◌==◌, ◌^◌, ◌&&◌, Bool, true, false, List, [], ◌∷◌, take, drop, min, nat_le, nat_lt, Option, Some, None, if◌then◌else◌}
+use Rattle.std.specs.Prelude.{ℕ, zero, suc, ◌+◌, ◌-◌, ◌==◌, ◌^◌, ◌&&◌, Bool, true, false, List, [], ◌∷◌, take, drop, min, nat_le, nat_lt, Option, Some, None, if◌then◌else◌}
 use Rattle.std.specs.List.{prefix_len}
 use Rattle.std.specs.Option.{option_map}
 use Rattle.protocol_lang.specs.Numbers.{is_digit, number_of}
 use Rattle.room_spec.specs.Names.{is_name_byte}
 use Rattle.fault_text.specs.declared.forms.Step.{Step}
-use Rattle.fault_text.specs.declared.forms.TheConstants.{MAX_NAME, MORE_OWN_VALUES, MORE_VALUES}
+use Rattle.protocol_lang.specs.declared.meaning.TheConstants.{MAX_PROCESSES}
+use Rattle.room_spec.specs.declared.name.TheConstants.{MAX_NAME}
+use Rattle.room_spec.specs.declared.spec.TheConstants.{MAX_AGREED, MAX_ROUNDS, MAX_SIMULATORS, MAX_TURNS}
+use Rattle.fault_text.specs.declared.forms.TheConstants.{MORE_OWN_VALUES, MORE_VALUES}
 
 -- ---- numbers
 
@@ -24,15 +27,15 @@ reaches least most field = is_within least most (option_map (λ n. min n (2 ^ 32
 abbrev pub range_of : ℕ → Option (ℕ × ℕ)
 range_of byte =
     if byte == 66 then Some (1, 2)  -- B, a version
-    else if byte == 77 then Some (1, 8)  -- M simulators
-    else if byte == 83 then Some (1, 15)  -- S rounds
-    else if byte == 84 then Some (1, 65535)  -- T turns
-    else if byte == 75 then Some (1, 16)  -- K values that are agreed on
-    else if byte == 81 then Some (1, 16)  -- Q processes
-    else if byte == 74 then Some (0, 7)  -- J, a simulator of a block
+    else if byte == 77 then Some (1, MAX_SIMULATORS)  -- M simulators
+    else if byte == 83 then Some (1, MAX_ROUNDS)  -- S rounds
+    else if byte == 84 then Some (1, MAX_TURNS)  -- T turns
+    else if byte == 75 then Some (1, MAX_AGREED)  -- K values that are agreed on
+    else if byte == 81 then Some (1, MAX_PROCESSES)  -- Q processes
+    else if byte == 74 then Some (0, MAX_SIMULATORS - 1)  -- J, a simulator of a block
     else if byte == 73 then Some (0, 255)  -- I, a simulator of a command
     else if byte == 67 then Some (1, 65535)  -- C steps
-    else if byte == 80 then Some (0, 15)  -- P, a process
+    else if byte == 80 then Some (0, MAX_PROCESSES - 1)  -- P, a process
     else if byte == 86 then Some (0, 4294967295)  -- V, a value
     else None
 

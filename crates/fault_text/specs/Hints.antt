@@ -65,7 +65,7 @@ near_hint word known = if nat_lt (length word) 2 then [] else near_words (neares
 -- ---- lines
 
 abbrev pub blank_advice : List ℕ → List ℕ
-blank_advice line = if is_blank line then codes "blank lines may be in a protocol's text alone" else []
+blank_advice line = if is_blank line then codes "blank lines may be only in a protocol's text" else []
 
 -- of a space before which a line should have ended, or before which there is another one
 abbrev pub space_advice : List ℕ → List ℕ → List ℕ

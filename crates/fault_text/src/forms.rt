@@ -8,15 +8,13 @@ ghost use Rattle.protocol_lang.specs.Numbers.{is_digit};
 ghost use Rattle.fault_text.specs.Forms.{digits_of, entry_step, item_step, literal_step, misfit_from, more_step, name_len, name_step, number_step, range_of, ranged_step, reaches, step_of, value_step};
 
 use protocol_lang::read_number;
-
-/// The longest name of a room.
-const MAX_NAME: usize = 32;
+use room_spec::{MAX_AGREED, MAX_NAME, MAX_PROCESSES, MAX_ROUNDS, MAX_SIMULATORS, MAX_TURNS};
 
 /// The most values that may follow the first: one for each process.
-const MORE_VALUES: usize = 15;
+const MORE_VALUES: usize = MAX_PROCESSES - 1;
 
 /// The same of a reduction's inputs, one for each simulator.
-const MORE_OWN_VALUES: usize = 7;
+const MORE_OWN_VALUES: usize = MAX_SIMULATORS - 1;
 
 /// What one byte of a form takes of a line: how many bytes, and whether they fit it. If not, they end where the line leaves the form.
 #[derive(Clone, Copy)]
@@ -160,15 +158,15 @@ pub(crate) fn range_of(byte: u8) -> Option<(u64, u64)>
 {
     match byte {
         b'B' => Some((1, 2)),
-        b'M' => Some((1, 8)),
-        b'S' => Some((1, 15)),
-        b'T' => Some((1, 65535)),
-        b'K' => Some((1, 16)),
-        b'Q' => Some((1, 16)),
-        b'J' => Some((0, 7)),
+        b'M' => Some((1, MAX_SIMULATORS as u64)),
+        b'S' => Some((1, MAX_ROUNDS as u64)),
+        b'T' => Some((1, MAX_TURNS as u64)),
+        b'K' => Some((1, MAX_AGREED as u64)),
+        b'Q' => Some((1, MAX_PROCESSES as u64)),
+        b'J' => Some((0, MAX_SIMULATORS as u64 - 1)),
         b'I' => Some((0, 255)),
         b'C' => Some((1, 65535)),
-        b'P' => Some((0, 15)),
+        b'P' => Some((0, MAX_PROCESSES as u64 - 1)),
         b'V' => Some((0, 4294967295)),
         _ => None,
     }

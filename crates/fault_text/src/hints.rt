@@ -36,10 +36,12 @@ const AT_PLACE: [&[u8]; 16] = [
 const AT_START: [&[u8]; 2] = [b"#\nthere are no comments", b"//\nthere are no comments"];
 
 /// Lines that are no block's, by the bytes with which they begin, and where they belong.
-pub(crate) const NO_BLOCK: [&[u8]; 7] = [
+pub(crate) const NO_BLOCK: [&[u8]; 9] = [
     b"open\nthis looks like a script, which `bgview trace` and `bgview draw` read",
     b"step \nthis looks like a script, which `bgview trace` and `bgview draw` read",
     b"settle \nthis looks like a script, which `bgview trace` and `bgview draw` read",
+    b"report \nthis looks like a script, which `bgview trace` and `bgview draw` read",
+    b"close \nthis looks like a script, which `bgview trace` and `bgview draw` read",
     b"events\nthis looks like a transcript, which `bgview why` reads",
     b"task \na task is the line after the turns, in a block that begins with `bgsim 2`",
     b"{\nthis looks like JSON: a room is a block of lines, from `bgsim 1` to `end`",
@@ -47,10 +49,13 @@ pub(crate) const NO_BLOCK: [&[u8]; 7] = [
 ];
 
 /// Lines that are no event lines.
-pub const NO_EVENT: [&[u8]; 3] = [
+pub const NO_EVENT: [&[u8]; 6] = [
     b"open\nthis looks like a script, which `bgview trace` and `bgview draw` read",
     b"step \nthis looks like a script, which `bgview trace` and `bgview draw` read",
+    b"crash \nthis looks like a script, which `bgview trace` and `bgview draw` read",
     b"settle \nthis looks like a script, which `bgview trace` and `bgview draw` read",
+    b"report \nthis looks like a script, which `bgview trace` and `bgview draw` read",
+    b"close \nthis looks like a script, which `bgview trace` and `bgview draw` read",
 ];
 
 /// Lines that are no commands.
@@ -59,7 +64,7 @@ pub const NO_COMMAND: [&[u8]; 5] = [
     b"restart \na simulator that has crashed does not start again",
     b"start \na room is opened by a line `open` and its block",
     b"end\na line `end` is the last of a block, which comes after a line `open`",
-    b"bgsim \nin a script a line `open` comes before each block; `bgview sample` and `bgview outcomes` read blocks alone, `bgview why` blocks and events",
+    b"bgsim \nin a script a line `open` comes before each block; `bgview sample` and `bgview outcomes` read blocks only, `bgview why` blocks and events",
 ];
 
 /// What may help with a protocol's text, by the bytes from one byte before the place of its fault on.
@@ -298,7 +303,7 @@ fn blank_advice(line: &[u8]) -> &'static [u8]
     ensures { result.now ≡ blank_advice line.now }
 {
     if is_blank(line) {
-        b"blank lines may be in a protocol's text alone"
+        b"blank lines may be only in a protocol's text"
     } else {
         &[]
     }

@@ -271,9 +271,9 @@ fn write_range_or_word(output: &mut Text, byte: u8, left: &[u8]) -> Result<(), A
     match range_of(byte) {
         Some((least, most)) => {
             output.put(b"a number from")?;
-            output.put_number(least)?;
+            output.put_spaced_number(least)?;
             output.put(b" to")?;
-            output.put_number(most)
+            output.put_spaced_number(most)
         }
         None => {
             output.put(b"`")?;

@@ -62,7 +62,7 @@ pub fn write_heading(output: &mut Text, number: u64, sentence: &[u8]) -> Result<
     ensures { OnOk result (output.new ≡ output.old ++ indented (heading number sentence.now)) }
 {
     output.put(b"    line")?;
-    output.put_number(number)?;
+    output.put_spaced_number(number)?;
     output.put_two(b": ", sentence)?;
     output.put(b"\n")
 }

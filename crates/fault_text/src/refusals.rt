@@ -156,7 +156,7 @@ fn write_named_line(output: &mut Text, name: &[u8], line: u64) -> Result<(), All
 {
     output.put_two(THE_BLOCK, name)?;
     output.put(IS_REFUSED)?;
-    output.put_number(line)?;
+    output.put_spaced_number(line)?;
     output.put(b"\n")
 }
 

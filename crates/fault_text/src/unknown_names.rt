@@ -90,7 +90,7 @@ impl UnknownNames {
             return Ok(());
         }
         output.put(b"    and")?;
-        output.put_number(self.more)?;
+        output.put_spaced_number(self.more)?;
         output.put_two(words, b"\n")
     }
 }

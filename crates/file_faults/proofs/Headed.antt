@@ -39,7 +39,7 @@ use Rattle.file_faults.specs.Files.{unread_said, unread_spot}
 use Rattle.file_faults.specs.Json.{IsHeaded}
 use Rattle.file_faults.specs.OpenRooms.{refusal_of, simulators_of}
 use Rattle.file_faults.specs.Scripts.{KnownRooms, block_in_front, entry_said, entry_spot, is_block_refused, line_said, line_spot, meant, read_said, read_spot, refused_said, refused_spot, simulators_note}
-use Rattle.file_faults.specs.declared.events.TheConstants.{BLOCK_LINES, BLOCKS_BEFORE, EVENTS_ALONE, REPORT_LINES}
+use Rattle.file_faults.specs.declared.events.TheConstants.{BLOCK_LINES, BLOCKS_BEFORE, EVENTS_ONLY, REPORT_LINES}
 use Rattle.file_faults.specs.declared.files.TheConstants.{NO_EVENTS}
 
 abbrev first_byte : ℕ → List ℕ → SpotParts
@@ -111,7 +111,7 @@ event_line_headed opened unknown_names number line (Ok read) some =
     unknown_name_headed (has_room read.0 opened.rooms) (is_met read.0 unknown_names) number no_room_sentence line (near_room opened.input read.0 ++ named_refusals opened.input read.0 opened.refused) some
 event_line_headed opened unknown_names number line (Err fault) some =
     bad_line_headed (fits_one line (map (λ form. form.now) BLOCK_LINES)) (fits_one line (map (λ form. form.now) REPORT_LINES)) number (sentence_of fault) line
-    (indented BLOCKS_BEFORE.now) (indented EVENTS_ALONE.now) (hint (advice (map (λ entry. entry.now) NO_EVENT) line)) (map (λ form. form.now) EVENTS)
+    (indented BLOCKS_BEFORE.now) (indented EVENTS_ONLY.now) (hint (advice (map (λ entry. entry.now) NO_EVENT) line)) (map (λ form. form.now) EVENTS)
 
 pub event_headed : (opened : OpenedParts) (unknown_names : MetNames) (number : ℕ) (text : List ℕ) → IsHeaded false (event_spot number text) (event_said opened unknown_names number text)
 event_headed opened unknown_names number text some = event_line_headed opened unknown_names number (first_line text) (line_in (first_line text)) some

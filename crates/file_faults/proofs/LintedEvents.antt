@@ -32,7 +32,7 @@ use Rattle.fault_text.specs.declared.refusals.TheConstants.{MOST_EXPLAINED}
 use Rattle.file_faults.specs.Events.{OpenedParts, bad_line_said, event_faults, event_lines, line_said, met_if, misplaced_said, unknown_name_said, unknown_names_after}
 use Rattle.file_faults.specs.Events.{later_events as events_after, met_unless, next_event}
 use Rattle.file_faults.specs.Files.{AreFaultsAfter, AreTranscriptFaults, IsWhole}
-use Rattle.file_faults.specs.declared.events.TheConstants.{BLOCK_LINES, BLOCKS_BEFORE, EVENTS_ALONE, REPORT_LINES}
+use Rattle.file_faults.specs.declared.events.TheConstants.{BLOCK_LINES, BLOCKS_BEFORE, EVENTS_ONLY, REPORT_LINES}
 use Rattle.file_faults.specs.declared.files.TheConstants.{NO_EVENTS}
 use Rattle.file_faults.specs.Walks.{said_from}
 use Rattle.file_faults.proofs.LintedRooms.{nothing_left, refused_said}
@@ -74,7 +74,7 @@ some_bad number line fault false false elsewhere other rest is = omega (arith, a
 
 bad_line : (number : ℕ) (line : List ℕ) (fault : LineFault) → bad_line_said number line fault ≡ [] → ⊥
 bad_line number line fault is =
-    some_bad number line fault (fits_one line (map (λ form. form.now) BLOCK_LINES)) (fits_one line (map (λ form. form.now) REPORT_LINES)) BLOCKS_BEFORE.now EVENTS_ALONE.now (hint (advice (map (λ entry. entry.now) NO_EVENT) line)) is
+    some_bad number line fault (fits_one line (map (λ form. form.now) BLOCK_LINES)) (fits_one line (map (λ form. form.now) REPORT_LINES)) BLOCKS_BEFORE.now EVENTS_ONLY.now (hint (advice (map (λ entry. entry.now) NO_EVENT) line)) is
 
 -- nothing is said of the line exactly if it is an event of a room
 fine_line : (opened : OpenedParts) (number place : ℕ) (line : List ℕ) (read : Result (List ℕ × Event) LineFault) → line_said opened none_met number line read ≡ [] → IsOk (of_known_room opened.rooms place read)

@@ -24,7 +24,7 @@ use Rattle.fault_text.specs.declared.phrases.TheConstants.{EVENTS}
 use Rattle.file_faults.specs.Json.{enough_in, fault_in, more_in}
 use Rattle.file_faults.specs.Scripts.{block_in_front}
 use Rattle.file_faults.specs.Walks.{Parts, said_from}
-use Rattle.file_faults.specs.declared.events.TheConstants.{BLOCK_LINES, BLOCKS_BEFORE, EVENTS_ALONE, MORE_LINES, REPORT_LINES}
+use Rattle.file_faults.specs.declared.events.TheConstants.{BLOCK_LINES, BLOCKS_BEFORE, EVENTS_ONLY, MORE_LINES, REPORT_LINES}
 use Rattle.fault_text.specs.declared.refusals.TheConstants.{MOST_EXPLAINED}
 
 -- What a transcript has before its event lines: its rooms, and the blocks of it that are refused.
@@ -51,7 +51,7 @@ misplaced_said number line fault elsewhere = indented_all (place_notes number (s
 abbrev pub bad_line_said : ℕ → List ℕ → LineFault → List ℕ
 bad_line_said number line fault =
     if fits_one line (map (λ form. form.now) BLOCK_LINES) then misplaced_said number line fault BLOCKS_BEFORE.now
-    else if fits_one line (map (λ form. form.now) REPORT_LINES) then misplaced_said number line fault EVENTS_ALONE.now
+    else if fits_one line (map (λ form. form.now) REPORT_LINES) then misplaced_said number line fault EVENTS_ONLY.now
     else form_fault number (sentence_of fault) line (map (λ form. form.now) EVENTS) ++ hint (advice (map (λ entry. entry.now) NO_EVENT) line)
 
 abbrev pub line_said : OpenedParts → MetNames → ℕ → List ℕ → Result (List ℕ × Event) LineFault → List ℕ

@@ -71,8 +71,8 @@ const REPORT_LINES: [&[u8]; 18] = [
 ];
 
 /// What a transcript has in their place.
-const EVENTS_ALONE: &[u8] =
-    b"this is a reply to a script: a transcript has its event lines alone, as `bgview transcript` writes them";
+const EVENTS_ONLY: &[u8] =
+    b"this is a reply to a script: a transcript has only its event lines, as `bgview transcript` writes them";
 
 /// What a transcript has before its event lines: its rooms, and the blocks of it that are refused.
 #[derive(Drop)]
@@ -272,7 +272,7 @@ fn write_bad_line(
         return write_misplaced(alloc, output, line, fault, BLOCKS_BEFORE);
     }
     if fits_one(line.text, &REPORT_LINES) {
-        return write_misplaced(alloc, output, line, fault, EVENTS_ALONE);
+        return write_misplaced(alloc, output, line, fault, EVENTS_ONLY);
     }
     let remark = Remark::new(line.number, fault.sentence());
     write_form_fault(alloc, output, &remark, line.text, &EVENTS)?;

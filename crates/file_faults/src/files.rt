@@ -16,7 +16,7 @@ use std::alloc::{AllocError, Global};
 
 /// What may help with such an input.
 const NO_EVENTS: &[u8] =
-    b"a transcript has a line `events` after its blocks, and `bgview sample` and `bgview outcomes` read blocks alone";
+    b"a transcript has a line `events` after its blocks, and `bgview sample` and `bgview outcomes` read blocks only";
 
 /// What is said of all blocks of a file of rooms that are refused.
 pub fn room_faults(alloc: Global, input: &[u8]) -> Result<Text, AllocError>

@@ -395,7 +395,7 @@ fn write_count_note(output: &mut Text, simulators: u64) -> Result<(), AllocError
     ensures { OnOk result (output.new ≡ output.old ++ count_note simulators) }
 {
     output.put(COUNTED)?;
-    output.put_number(simulators)?;
+    output.put_spaced_number(simulators)?;
     output.put(b"\n")
 }
 

@@ -33,7 +33,7 @@ pub fn write_vectors_line(
     ensures { OnOk result (output.new ≡ output.old ++ vectors_line name.now words.now kept count) }
 {
     output.put_two(name, words)?;
-    output.put_number(kept as u64)?;
+    output.put_spaced_number(kept as u64)?;
     write_of(output, count)
 }
 
@@ -41,7 +41,7 @@ fn write_of(output: &mut Text, count: usize) -> Result<(), AllocError>
     ensures { OnOk result (output.new ≡ output.old ++ (codes " of" ++ ((32 ∷ decimal count) ++ codes " vectors of inputs\n"))) }
 {
     output.put(b" of")?;
-    output.put_number(count as u64)?;
+    output.put_spaced_number(count as u64)?;
     output.put(b" vectors of inputs\n")
 }
 
@@ -54,6 +54,6 @@ pub fn write_too_many(output: &mut Text, name: &[u8], values: usize) -> Result<(
     ensures { OnOk result (output.new ≡ output.old ++ too_many_line name.now values) }
 {
     output.put_two(name, b" has more than 65536 vectors of")?;
-    output.put_number(values as u64)?;
+    output.put_spaced_number(values as u64)?;
     output.put(b" values: none is tried; give fewer values, or a room of fewer processes\n")
 }

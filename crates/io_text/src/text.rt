@@ -181,7 +181,7 @@ impl Text {
 
     /// Appends a space and a number to the text. An `Err` leaves it as it was.
     #[inline]
-    pub fn put_number(&mut self, value: u64) -> Result<(), AllocError>
+    pub fn put_spaced_number(&mut self, value: u64) -> Result<(), AllocError>
         ensures text { OnOk result (self.new ≡ self.old ++ 32 ∷ decimal value) }
         ensures err { OnErr result (self.new ≡ self.old) }
     {
@@ -206,18 +206,18 @@ impl Text {
     }
 
     /// Appends each number after a space to the text.
-    pub fn put_numbers(&mut self, numbers: &[u8]) -> Result<(), AllocError>
+    pub fn put_spaced_numbers(&mut self, numbers: &[u8]) -> Result<(), AllocError>
         ensures { OnOk result (self.new ≡ self.old ++ numbers_text numbers.now) }
     {
         for number in numbers {
-            self.put_number(u64::from(*number))?;
+            self.put_spaced_number(u64::from(*number))?;
         }
         Ok(())
     }
 
     /// Appends a space and a number, whose text is there, to the text. An `Err` leaves it as it was.
     #[inline(always)]
-    pub fn put_numeral(&mut self, numeral: &Numeral) -> Result<(), AllocError>
+    pub fn put_spaced_numeral(&mut self, numeral: &Numeral) -> Result<(), AllocError>
         ensures text { OnOk result (self.new ≡ self.old ++ 32 ∷ decimal numeral.now.value) }
         ensures err { OnErr result (self.new ≡ self.old) }
     {

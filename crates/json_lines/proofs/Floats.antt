@@ -39,9 +39,12 @@ entry_is : (entry : Option ℕ) → has_float (entry_data entry) ≡ false
 entry_is None = refl
 entry_is (Some v) = refl
 
+pub row_is : (row : List (Option ℕ)) → has_float (row_data row) ≡ false
+row_is row = items_are entry_data entry_is row
+
 pub event_is : (event : Event) → has_float (event_data event) ≡ false
 event_is (Write p v) = refl
-event_is (Snap p row) = both (has_float (row_data row.items)) false (items_are entry_data entry_is row.items) refl
+event_is (Snap p row) = both (has_float (row_data row.items)) false (row_is row.items) refl
 event_is (Decide p v) = refl
 
 pub events_are : (events : List Event) → has_float (events_data events) ≡ false

@@ -34,7 +34,11 @@ pub fn event_value(alloc: Global, event: &Event) -> Result<Value, AllocError>
 }
 
 /// The entries of a snapshot, in order.
-fn row_value(alloc: Global, row: &[Option<u32>]) -> Result<Value, AllocError>
+///
+/// # Errors
+///
+/// An allocation that fails.
+pub fn row_value(alloc: Global, row: &[Option<u32>]) -> Result<Value, AllocError>
     ensures { IfOk result (λ value. view value ≡ row_data row.now) }
 {
     let mut values = Vec::new(alloc);

@@ -226,7 +226,7 @@ pub(crate) fn write_remark(output: &mut Text, line: u64, words: &[u8]) -> Result
     ensures { OnOk result (output.new ≡ output.old ++ remark line words.now) }
 {
     output.put(b"! line")?;
-    output.put_number(line)?;
+    output.put_spaced_number(line)?;
     output.put(words)?;
     output.put(b"\n")
 }
@@ -236,8 +236,8 @@ fn write_fault(output: &mut Text, line: u64, fault: TextFault) -> Result<(), All
     ensures { OnOk result (output.new ≡ output.old ++ remark line (codes ": fault " ++ decimal (text_code fault))) }
 {
     output.put(b"! line")?;
-    output.put_number(line)?;
+    output.put_spaced_number(line)?;
     output.put(b": fault")?;
-    output.put_number(u64::from(fault.code()))?;
+    output.put_spaced_number(u64::from(fault.code()))?;
     output.put(b"\n")
 }

@@ -1,3 +1,4 @@
 mod Attributing
 mod Elements
 mod WellFormed
+mod Escaping

@@ -1,5 +1,5 @@
 -- The attributes of elements, and the words between tags.
-use Rattle.std.specs.Prelude.{ℕ, ◌%◌, ◌||◌, ◌==◌, nat_lt, List, [], ◌∷◌, ◌++◌, codes, decimal, slice_index_or, if◌then◌else◌}
+use Rattle.std.specs.Prelude.{ℕ, ◌%◌, ◌||◌, ◌==◌, nat_lt, Bool, false, not, List, [], ◌∷◌, ◌++◌, codes, decimal, slice_index_or, if◌then◌else◌}
 use Rattle.std.specs.List.{flat_map}
 use Rattle.picture_shapes.specs.declared.colour.Colour.{Colour}
 use Rattle.picture_shapes.specs.declared.colour.Colour.TheVariants.{Clear, White, Ink, Faint, Rule, Alarm, Hatched, Pale, Hue}
@@ -81,6 +81,12 @@ escaped_byte byte =
     else (if byte == 60 then codes "&lt;"
     else (if byte == 62 then codes "&gt;"
     else (if byte == 34 then codes "&quot;" else printable byte ∷ [])))
+
+-- whether a byte is written as it is
+abbrev pub is_plain : ℕ → Bool
+is_plain byte =
+    if byte == 38 then false
+    else (if byte == 60 then false else (if byte == 62 then false else (if byte == 34 then false else not (nat_lt byte 32 || nat_lt 126 byte))))
 
 unfoldable pub escaped : List ℕ → List ℕ
 escaped words = flat_map escaped_byte words

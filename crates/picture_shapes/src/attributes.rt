@@ -1,6 +1,7 @@
 //! The attributes of elements, and the words between tags.
-ghost use Rattle.std.specs.Prelude.{◌≡◌, ◌++◌, OnOk, decimal};
-ghost use Rattle.picture_shapes.specs.Attributes.{anchor_of, attribute, colour_of, dashes_of, escaped, escaped_byte, face_of, font_of, framed, printable, sized, standing};
+ghost use Rattle.std.specs.Prelude.{◌≡◌, ◌++◌, ◌≤◌, OnOk, decimal, drop, length, take};
+ghost use Rattle.std.specs.List.{prefix_len};
+ghost use Rattle.picture_shapes.specs.Attributes.{anchor_of, attribute, colour_of, dashes_of, escaped, escaped_byte, face_of, font_of, framed, is_plain, printable, sized, standing};
 
 use crate::colour::Colour;
 use crate::shape::{Anchor, Dashes, Face, Font, Frame, Point};
@@ -130,14 +131,45 @@ pub(crate) fn write_font(output: &mut Text, font: Font) -> Result<(), AllocError
 }
 
 /// Writes words, escaped as XML asks.
-#[tactic(auto, unfolding(crate::specs::Attributes::escaped))]
 pub(crate) fn write_escaped(output: &mut Text, words: &[u8]) -> Result<(), AllocError>
     ensures { OnOk result (output.new ≡ output.old ++ escaped words.now) }
 {
-    for byte in words {
+    let mut rest = words;
+    loop {
+        let (plain, marked) = split_plain(rest);
+        output.put(plain)?;
+        let Some((byte, later)) = marked.split_first() else {
+            return Ok(());
+        };
         write_escaped_byte(output, *byte)?;
+        rest = later;
     }
-    Ok(())
+}
+
+/// The bytes that words begin with and that are written as they are, and the bytes after them.
+fn split_plain(words: &[u8]) -> (&[u8], &[u8])
+    ensures plain { result.0.now ≡ take (prefix_len is_plain words.now) words.now }
+    ensures marked { result.1.now ≡ drop (prefix_len is_plain words.now) words.now }
+{
+    words.split_at(plain_len(words))
+}
+
+/// How many bytes words begin with that are written as they are.
+fn plain_len(words: &[u8]) -> usize
+    ensures value { result ≡ prefix_len is_plain words.now }
+    ensures within { result ≤ length words.now }
+{
+    words.iter().take_while(|byte| is_plain(**byte)).count()
+}
+
+/// Whether a byte is written as it is: it is printable ASCII and no mark of XML.
+fn is_plain(byte: u8) -> bool
+    ensures { result ≡ is_plain byte }
+{
+    match byte {
+        b'&' | b'<' | b'>' | b'"' => false,
+        _ => byte >= b' ' && byte <= b'~',
+    }
 }
 
 fn write_escaped_byte(output: &mut Text, byte: u8) -> Result<(), AllocError>

@@ -270,8 +270,8 @@ fn write_view_box(output: &mut Text, size: Size) -> Result<(), AllocError>
     ensures { OnOk result (output.new ≡ output.old ++ view_box size) }
 {
     start_view_box(output)?;
-    output.put_number(size.width)?;
-    output.put_number(size.height)?;
+    output.put_spaced_number(size.width)?;
+    output.put_spaced_number(size.height)?;
     output.put(b"\"")
 }
 

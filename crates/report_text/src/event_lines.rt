@@ -105,9 +105,9 @@ fn write_value(
         (name.now ++ (32 ∷ decimal p ++ (deed.now ++ (32 ∷ decimal value.now.value ++ codes "\n"))))) }
 {
     output.put_short(name)?;
-    output.put_number(u64::from(p))?;
+    output.put_spaced_number(u64::from(p))?;
     output.put(deed)?;
-    output.put_numeral(value)?;
+    output.put_spaced_numeral(value)?;
     output.put(b"\n")
 }
 

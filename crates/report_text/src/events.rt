@@ -43,7 +43,7 @@ fn write_event(
 fn write_value(output: &mut Text, p: u8, deed: &[u8], v: u32) -> Result<(), AllocError>
     ensures { OnOk result (output.new ≡ output.old ++ (32 ∷ decimal p ++ (deed.now ++ (codes " " ++ (decimal v ++ codes "\n"))))) }
 {
-    output.put_number(u64::from(p))?;
+    output.put_spaced_number(u64::from(p))?;
     write_end(output, deed, u64::from(v))
 }
 
@@ -58,7 +58,7 @@ pub(crate) fn write_snapshot(
     ensures { OnOk result (output.new ≡ output.old ++ (32 ∷ decimal p ++
         (codes " snap" ++ (entries_text entries.now ++ codes "\n")))) }
 {
-    output.put_number(u64::from(p))?;
+    output.put_spaced_number(u64::from(p))?;
     output.put(b" snap")?;
     output.put_row(entries, shown)?;
     output.put(b"\n")

@@ -66,7 +66,7 @@ fn write_process(
     ensures { OnOk result (output.new ≡ output.old ++ process_line name.now process state) }
 {
     output.put_two(name, b" process")?;
-    output.put_number(process as u64)?;
+    output.put_spaced_number(process as u64)?;
     write_state(output, state)
 }
 
@@ -87,7 +87,7 @@ pub(crate) fn write_end(output: &mut Text, words: &[u8], number: u64) -> Result<
     ensures { OnOk result (output.new ≡ output.old ++ (words.now ++ (codes " " ++ (decimal number ++ codes "\n")))) }
 {
     output.put(words)?;
-    output.put_number(number)?;
+    output.put_spaced_number(number)?;
     output.put(b"\n")
 }
 
@@ -95,7 +95,7 @@ fn write_crashed(output: &mut Text, name: &[u8], crashed: &[u8]) -> Result<(), A
     ensures { OnOk result (output.new ≡ output.old ++ (name.now ++ (codes " crashed" ++ (numbers_text crashed.now ++ codes "\n")))) }
 {
     output.put_two(name, b" crashed")?;
-    output.put_numbers(crashed)?;
+    output.put_spaced_numbers(crashed)?;
     output.put(b"\n")
 }
 

@@ -8,7 +8,7 @@ use Rattle.room_spec.specs.Rooms.{RoomSpec, with_inputs}
 use Rattle.room_spec.specs.declared.version.Version.TheVariants.{Two}
 use Rattle.simulator.specs.declared.goal.Goal.TheVariants as goals
 use Rattle.simulator.specs.Minds.{goal_at, known_input}
-use Rattle.room_core.specs.Agreements.{agreed_input, input_at, is_clean, is_fixed, is_input_known, run_spec, shown_of}
+use Rattle.room_core.specs.Agreements.{agreed_input, input_at, is_resolved, is_fixed, is_input_known, run_spec, shown_of}
 use Rattle.room_core.specs.Fields.{Fields, levels_at, opening_fields, replay_fields}
 use Rattle.room_core.specs.Rooms.{ScheduleEvent, crashes, steps}
 use Rattle.room_core.specs.Settled.{blocked_in, crashed_in}
@@ -48,8 +48,8 @@ nothing_agreed : (agreed [] ≡ None ∷ None ∷ []) × (input_at vote (after [
 nothing_agreed = (refl, refl, refl, refl)
 
 -- Simulator 0 by itself proposes its own input, enters, looks and leaves, and finds that it was chosen; with its sixth step it has the
--- input. A clean agreement isn't enough.
-alone : (levels_at vote (after (step_by 0 2)) 0 0 ≡ 1 ∷ 0 ∷ []) × (levels_at vote (after (step_by 0 4)) 0 0 ≡ 2 ∷ 0 ∷ []) × (is_clean vote (after (step_by 0 5)) 0 0 ≡ true) × (agreed (step_by 0 5) ≡ None ∷ None ∷ []) × (agreed (step_by 0 6) ≡ Some 7 ∷ None ∷ [])
+-- input. A resolved agreement isn't enough.
+alone : (levels_at vote (after (step_by 0 2)) 0 0 ≡ 1 ∷ 0 ∷ []) × (levels_at vote (after (step_by 0 4)) 0 0 ≡ 2 ∷ 0 ∷ []) × (is_resolved vote (after (step_by 0 5)) 0 0 ≡ true) × (agreed (step_by 0 5) ≡ None ∷ None ∷ []) × (agreed (step_by 0 6) ≡ Some 7 ∷ None ∷ [])
 alone = (refl, refl, refl, refl, refl)
 
 -- its next turn is on the same process, and is its first write

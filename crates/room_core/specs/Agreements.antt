@@ -1,4 +1,4 @@
--- The agreements of a room, as its fields have them: which are clean, passed and fixed, what they show, and what the protocol asks for
+-- The agreements of a room, as its fields have them: which are resolved, passed and fixed, what they show, and what the protocol asks for
 -- after them.
 use Rattle.std.specs.Prelude.{◌≡◌, ◌≢◌, ◌⊎◌, ℕ, ◌+◌, ◌-◌, ◌<◌, ◌≤◌, Bool, true, false, not, List, map, Option, Some, None, Contains, slice_index, unwrap_or, position, nat_le, nat_lt, ◌==◌, ◌&&◌, ◌||◌, if◌then◌else◌}
 use Rattle.std.specs.List.{find, list_any, range_with_len}
@@ -43,13 +43,13 @@ IsDecisionOf spec fields i None = (j : ℕ) → j < processes spec → fields.ou
 
 -- ---- the agreement on process j's snapshot in round k
 
-abbrev pub is_clean : RoomSpec → Fields → ℕ → ℕ → Bool
-is_clean spec fields j k = agreement.is_clean (levels_at spec fields j k)
+abbrev pub is_resolved : RoomSpec → Fields → ℕ → ℕ → Bool
+is_resolved spec fields j k = agreement.is_resolved (levels_at spec fields j k)
 
 -- a simulator has gone on from it, or may go on from it now
 abbrev pub is_passed : RoomSpec → Fields → ℕ → ℕ → Bool
 is_passed spec fields j k =
-    is_clean spec fields j k
+    is_resolved spec fields j k
     || nat_lt k (greatest_step spec fields j)
     || (has_out spec fields j && (greatest_step spec fields j == k))
 

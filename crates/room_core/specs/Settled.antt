@@ -7,13 +7,13 @@ use Rattle.room_spec.specs.Rooms.{RoomSpec, is_reduction, processes}
 use Rattle.simulator.specs.declared.goal.Goal.TheVariants as goals
 use Rattle.simulator.specs.Minds.{goal_at, is_unfinished}
 use Rattle.room_core.specs.Fields.{Fields}
-use Rattle.room_core.specs.Agreements.{asks, has_out, is_clean, is_fixed}
+use Rattle.room_core.specs.Agreements.{asks, has_out, is_resolved, is_fixed}
 
 -- It has decided; or it has made all its writes, and its last snapshot asks for one more; or a simulator has crashed inside an
 -- agreement on one of its snapshots, or in a reduction on its input.
 pub data IsSettledFor (spec : RoomSpec) (fields : Fields) (j : ℕ) : Type 0 where
   decided : has_out spec fields j ≡ true → IsSettledFor spec fields j
-  spent : (value : ℕ) → is_clean spec fields j spec.rounds ≡ true → asks spec fields j spec.rounds ≡ Write value → IsSettledFor spec fields j
+  spent : (value : ℕ) → is_resolved spec fields j spec.rounds ≡ true → asks spec fields j spec.rounds ≡ Write value → IsSettledFor spec fields j
   held : (i k : ℕ) → i < spec.simulators → fields.crashed i ≡ true → 1 ≤ k → k ≤ spec.rounds → fields.level i j k ≡ 1 → IsSettledFor spec fields j
   held_input : (i : ℕ) → is_reduction spec ≡ true → i < spec.simulators → fields.crashed i ≡ true → fields.level i j 0 ≡ 1 → IsSettledFor spec fields j
 

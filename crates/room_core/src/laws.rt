@@ -2,9 +2,9 @@
 ghost use Rattle.std.specs.Prelude.{length, slice_index, false, ℕ, ◌≡◌, ◌≢◌, ◌↔◌, ◌+◌, ◌*◌, ◌<◌, ◌≤◌, [], ◌∷◌, ◌++◌, ◌⊎◌, true, List, Some, Contains};
 ghost use Rattle.std.specs.List.{filter, range_with_len};
 ghost use Rattle.room_spec.specs.Rooms.{IsCertified, RoomSpec, IsWithinLimits, is_reduction, processes};
-ghost use Rattle.safe_agreement.specs.Levels.{IsClean, least_two};
+ghost use Rattle.safe_agreement.specs.Levels.{IsResolved, least_two};
 ghost use Rattle.room_core.specs.Contents.{IsDue};
-ghost use Rattle.room_core.specs.Agreements.{AgreementsStay, DoCompare, HasAgreed, IsDecisionOf, IsFixedAt, IsInsideTurn, agreed_input, asks, decided_in, greatest_step, has_out, input_at, is_clean, is_fixed, is_input_known, is_passed, row_at, run_spec, shown_of, view_at};
+ghost use Rattle.room_core.specs.Agreements.{AgreementsStay, DoCompare, HasAgreed, IsDecisionOf, IsFixedAt, IsInsideTurn, agreed_input, asks, decided_in, greatest_step, has_out, input_at, is_resolved, is_fixed, is_input_known, is_passed, row_at, run_spec, shown_of, view_at};
 ghost use Rattle.protocol_lang.specs.Numbers.{greatest};
 ghost use Rattle.protocol_lang.specs.declared.meaning.Action.TheVariants.{Decide, Write};
 ghost use Rattle.simulator.specs.Bounds.{agreement_rounds};
@@ -124,7 +124,7 @@ pub fn inside_one_turn()
         IsInsideTurn fields i j k }
 {}
 
-/// Every agreement that has been passed is fixed: one that is clean, one of a round before another
+/// Every agreement that has been passed is fixed: one that is resolved, one of a round before another
 /// that some simulator has counted, and one after which a decision was stored.
 pub fn passed_is_fixed()
     ensures fixed { (room : RoomState) (fields : Fields) →
@@ -251,20 +251,20 @@ pub fn runs_end()
         (processes room.spec * agreement_rounds (sizes_in room.spec) + 1) * processes room.spec }
 {}
 
-/// An agreement that was left, and in which no simulator is at level 1, is clean: only a simulator that
+/// An agreement that was left, and in which no simulator is at level 1, is resolved: only a simulator that
 /// stopped inside can hold it.
-pub fn left_is_clean()
+pub fn left_is_resolved()
     ensures snapshots { (room : RoomState) (fields : Fields) →
         IsWithinLimits room.spec → AreFieldsOf room fields → (i j k : ℕ) → i < room.spec.simulators → 1 ≤ k → k < fields.step i j →
         ((a : ℕ) → a < room.spec.simulators → fields.level a j k ≢ 1) →
-        IsClean (levels_at room.spec fields j k) }
+        IsResolved (levels_at room.spec fields j k) }
     // So is that on an input, if a simulator asks what it is, or has it.
     ensures inputs { (room : RoomState) (fields : Fields) →
         IsWithinLimits room.spec → AreFieldsOf room fields → (i j : ℕ) → i < room.spec.simulators → j < processes room.spec →
         is_reduction room.spec ≡ true →
         (goal_at (fields.mind i).goals j ≡ AskInput) ⊎ (has_input (goal_at (fields.mind i).goals j) ≡ true) →
         ((a : ℕ) → a < room.spec.simulators → fields.level a j 0 ≢ 1) →
-        IsClean (levels_at room.spec fields j 0) }
+        IsResolved (levels_at room.spec fields j 0) }
 {}
 
 /// The proposals that are kept, of whatever agreements, are snapshots of one simulated memory.
@@ -494,7 +494,7 @@ pub fn later_rounds_show_all()
 pub fn certified_rooms_decide()
     ensures unspent { (room : RoomState) (fields : Fields) →
         IsWithinLimits room.spec → AreFieldsOf room fields → (f : ℕ) → IsCertified room.spec f → is_reduction room.spec ≡ false → (j value : ℕ) → 2 ≤ room.spec.rounds →
-        j < processes room.spec → is_clean room.spec fields j room.spec.rounds ≡ true →
+        j < processes room.spec → is_resolved room.spec fields j room.spec.rounds ≡ true →
         asks room.spec fields j room.spec.rounds ≡ Write value →
         ⊥ }
     ensures settled { (room : RoomState) (fields : Fields) →
@@ -510,7 +510,7 @@ pub fn certified_reductions_decide()
     ensures unspent { (room : RoomState) (fields : Fields) →
         IsWithinLimits room.spec → AreFieldsOf room fields → is_reduction room.spec ≡ true → (f : ℕ) → IsCertified room.spec f →
         room.spec.simulators ≤ f + 1 → (j value : ℕ) → 2 ≤ room.spec.rounds → j < processes room.spec →
-        is_clean room.spec fields j room.spec.rounds ≡ true →
+        is_resolved room.spec fields j room.spec.rounds ≡ true →
         asks room.spec fields j room.spec.rounds ≡ Write value →
         ⊥ }
     ensures settled { (room : RoomState) (fields : Fields) →

@@ -1,4 +1,5 @@
 mod AllKinds
+mod Beginnings
 mod BlockSteps
 mod BlockEnds
 pub mod CallerLemmas

@@ -1,7 +1,7 @@
 //! Which kinds of room blocks are read.
-ghost use Rattle.std.specs.Prelude.{◌≡◌, IfErr, IfOk};
+ghost use Rattle.std.specs.Prelude.{◌≡◌, IfErr, IfOk, false, true};
 ghost use Rattle.room_spec.specs.Blocks.{MayLackAtBy, OrMemory};
-ghost use Rattle.room_files.specs.Kinds.{LacksMemoryOf, ReadsBlock, block_of, reads_reduction, text_in_lines};
+ghost use Rattle.room_files.specs.Kinds.{LacksMemoryOf, ReadsBlock, ReadsBlockBy, RefusedMemoryBy, begins_ordinary, block_of, reads_reduction, text_in_lines};
 
 use protocol_lang::ParseFault;
 use room_spec::{Block, Protocols, Spec, SpecFault, cut_near, read_block, read_reduction};
@@ -70,12 +70,52 @@ pub(crate) fn read_lines<'a>(
     // An allocation that fails hides no fault that is found before it.
     ensures lacks { IfErr result (λ _. LacksMemoryOf kinds block.now) }
 {
-    let read = if kinds.reads_reduction(block.text()) {
-        block.read_reduction(alloc, protocols)
+    if kinds.reads_reduction(block.text()) {
+        read_reduction_lines(alloc, block, protocols)
     } else {
-        block.read(alloc, protocols)
-    };
-    match read {
+        read_ordinary_lines(alloc, block, protocols)
+    }
+}
+
+/// The same for one that isn't read as a reduction's. One whose first line begins no ordinary room is refused at once.
+#[inline]
+fn read_ordinary_lines<'a>(
+    alloc: Global,
+    block: &Block<'a>,
+    protocols: &mut Protocols<'a>,
+) -> Result<Result<Spec, SpecFault>, AllocError>
+    ensures read { IfOk result (λ read. ReadsBlockBy false block.now read) }
+    ensures lacks { IfErr result (λ _. RefusedMemoryBy false block.now) }
+{
+    let _ = block.lines(); // for the proof: it has a line `end`
+    if !begins_ordinary(block.text()) {
+        return Ok(Err(SpecFault::BadLine(1)));
+    }
+    match block.read(alloc, protocols) {
+        Err(SpecFault::BadProtocol(ParseFault::OutOfMemory)) => Err(AllocError),
+        read => Ok(read),
+    }
+}
+
+/// Whether the first line of a block is that of an ordinary room.
+fn begins_ordinary(block: &[u8]) -> bool
+    ensures { result ≡ begins_ordinary block.now }
+{
+    block.starts_with(b"bgsim 1\n") || block.starts_with(b"bgsim 2\n")
+}
+
+/// The same for one that is read as a reduction's.
+#[cold]
+#[inline(never)]
+fn read_reduction_lines<'a>(
+    alloc: Global,
+    block: &Block<'a>,
+    protocols: &mut Protocols<'a>,
+) -> Result<Result<Spec, SpecFault>, AllocError>
+    ensures read { IfOk result (λ read. ReadsBlockBy true block.now read) }
+    ensures lacks { IfErr result (λ _. RefusedMemoryBy true block.now) }
+{
+    match block.read_reduction(alloc, protocols) {
         Err(SpecFault::BadProtocol(ParseFault::OutOfMemory)) => Err(AllocError),
         read => Ok(read),
     }

@@ -33,9 +33,9 @@ fn write_code(output: &mut Text, line: u64, code: u16) -> Result<(), AllocError>
     ensures { OnOk result (output.new ≡ output.old ++ (codes "line " ++ (decimal line ++ (codes " refused " ++ decimal code)))) }
 {
     output.put(b"line")?;
-    output.put_number(line)?;
+    output.put_spaced_number(line)?;
     output.put(b" refused")?;
-    output.put_number(u64::from(code))
+    output.put_spaced_number(u64::from(code))
 }
 
 /// Writes the numbers after the code of a block's fault: its line, or what is wrong with the protocol.
@@ -46,7 +46,7 @@ fn write_numbers(output: &mut Text, fault: SpecFault) -> Result<(), AllocError>
         SpecFault::BadLine(line)
         | SpecFault::CrashLine(line)
         | SpecFault::Repeated(line)
-        | SpecFault::TaskLine(line) => output.put_number(line as u64),
+        | SpecFault::TaskLine(line) => output.put_spaced_number(line as u64),
         SpecFault::BadProtocol(fault) => write_protocol_fault(output, fault),
         SpecFault::Truncated
         | SpecFault::BadName
@@ -62,9 +62,9 @@ fn write_numbers(output: &mut Text, fault: SpecFault) -> Result<(), AllocError>
 fn write_protocol_fault(output: &mut Text, fault: ParseFault) -> Result<(), AllocError>
     ensures { OnOk result (output.new ≡ output.old ++ (codes " " ++ protocol_text (code_of fault) (place_of fault))) }
 {
-    output.put_number(u64::from(fault.code()))?;
+    output.put_spaced_number(u64::from(fault.code()))?;
     match fault.place() {
-        Some(place) => output.put_number(place as u64),
+        Some(place) => output.put_spaced_number(place as u64),
         None => Ok(()),
     }
 }
@@ -104,6 +104,6 @@ fn write_broken(output: &mut Text, name: &Name, words: &[u8], line: u64) -> Resu
     ensures { OnOk result (output.new ≡ output.old ++ (name.now ++ (words.now ++ (codes " " ++ (decimal line ++ codes "\n"))))) }
 {
     output.put_two(name.as_str().as_bytes(), words)?;
-    output.put_number(line)?;
+    output.put_spaced_number(line)?;
     output.put(b"\n")
 }

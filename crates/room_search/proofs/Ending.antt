@@ -7,14 +7,14 @@ use Rattle.std.proofs.lemmas.Bool.{cases_Bool}
 use Rattle.protocol_lang.specs.Meaning.{next_action}
 use Rattle.protocol_lang.specs.declared.meaning.Action.{Action}
 use Rattle.room_core.specs.Settled.{is_write}
-use Rattle.room_core.specs.Agreements.{asks, decided_in, input_at, is_clean, row_at, shown_by, shown_of}
+use Rattle.room_core.specs.Agreements.{asks, decided_in, input_at, is_resolved, row_at, shown_by, shown_of}
 use Rattle.room_core.specs.Calls.{RoomState}
 use Rattle.room_core.specs.Fields.{Fields}
 use Rattle.room_core.specs.Reading.{AreFieldsOf}
 use Rattle.ws_history.specs.Readings.{read_of}
 use Rattle.ws_history.specs.Reports.{held_by, held_or_going, is_spent, state_by, state_of, states_of}
 use Rattle.ws_history.specs.declared.states.ProcessState.{ProcessState}
-use Rattle.ws_history.proofs.CallerLemmas.{agreed_is, clean_knows, ordinary_input, states_in}
+use Rattle.ws_history.proofs.CallerLemmas.{agreed_is, resolved_knows, ordinary_input, states_in}
 use Rattle.run_search.specs.declared.ended.Ended.{Ended}
 use Rattle.room_outcomes.specs.Ends.{end_of, ends_of}
 use Rattle.room_search.specs.Ends.{end_by, ends_by, fields_by}
@@ -36,9 +36,9 @@ decided_read : (room : RoomState) (j : ℕ) → decided_in room.spec (read_of ro
 unfolding read_of
 decided_read room j = refl
 
-clean_read : (room : RoomState) (j k : ℕ) → is_clean room.spec (read_of room) j k ≡ is_clean room.spec (fields_by room.spec room.words) j k
+resolved_read : (room : RoomState) (j k : ℕ) → is_resolved room.spec (read_of room) j k ≡ is_resolved room.spec (fields_by room.spec room.words) j k
 unfolding read_of
-clean_read room j k = refl
+resolved_read room j k = refl
 
 shown_read : (room : RoomState) (j k : ℕ) → shown_by room.spec (read_of room) (row_at room.spec (read_of room) j k) ≡ shown_by room.spec (fields_by room.spec room.words) (row_at room.spec (fields_by room.spec room.words) j k)
 unfolding read_of
@@ -50,28 +50,28 @@ chosen_read room j = refl
 
 module _ (room : RoomState) (fields : Fields) (limits : IsWithinLimits room.spec) (are : AreFieldsOf room fields) (j : ℕ) (low : j < processes room.spec) where
   -- the input is known once the last snapshot can be read
-  input_read : is_clean room.spec (read_of room) j room.spec.rounds ≡ true → input_at room.spec (read_of room) j ≡ input_at room.spec (fields_by room.spec room.words) j
-  input_read clean = elim (cases_Bool (is_reduction room.spec)) [
+  input_read : is_resolved room.spec (read_of room) j room.spec.rounds ≡ true → input_at room.spec (read_of room) j ≡ input_at room.spec (fields_by room.spec room.words) j
+  input_read resolved = elim (cases_Bool (is_reduction room.spec)) [
     | inl kind ↦
-        ap (λ (o : Option ℕ). unwrap_or o (slice_index room.spec.inputs j)) (agreed_is room.spec (read_of room) j (clean_knows room fields limits are j low kind clean))
+        ap (λ (o : Option ℕ). unwrap_or o (slice_index room.spec.inputs j)) (agreed_is room.spec (read_of room) j (resolved_knows room fields limits are j low kind resolved))
         ∙ chosen_read room j ∙ sym (input_by_words room.spec room.words j limits.shape.m_range.0 kind)
     | inr kind ↦ ordinary_input room.spec (read_of room) kind j ∙ sym (ordinary_input room.spec (fields_by room.spec room.words) kind j)
   ]
 
-  asks_read : is_clean room.spec (read_of room) j room.spec.rounds ≡ true → asks room.spec (read_of room) j room.spec.rounds ≡ asks room.spec (fields_by room.spec room.words) j room.spec.rounds
-  asks_read clean =
-      ap (λ (x : ℕ). next_action room.spec.protocol x j room.spec.rounds (shown_by room.spec (read_of room) (row_at room.spec (read_of room) j room.spec.rounds))) (input_read clean)
+  asks_read : is_resolved room.spec (read_of room) j room.spec.rounds ≡ true → asks room.spec (read_of room) j room.spec.rounds ≡ asks room.spec (fields_by room.spec room.words) j room.spec.rounds
+  asks_read resolved =
+      ap (λ (x : ℕ). next_action room.spec.protocol x j room.spec.rounds (shown_by room.spec (read_of room) (row_at room.spec (read_of room) j room.spec.rounds))) (input_read resolved)
       ∙ ap (λ (l : List (Option ℕ)). next_action room.spec.protocol (input_at room.spec (fields_by room.spec room.words) j) j room.spec.rounds l) (shown_read room j room.spec.rounds)
 
   spent_read : is_spent room.spec (read_of room) j ≡ is_spent room.spec (fields_by room.spec room.words) j
   spent_read =
-      elim (cases_Bool (is_clean room.spec (read_of room) j room.spec.rounds)) [
-        | inl clean ↦ ap (λ (a : Action). is_clean room.spec (read_of room) j room.spec.rounds && is_write a) (asks_read clean)
+      elim (cases_Bool (is_resolved room.spec (read_of room) j room.spec.rounds)) [
+        | inl resolved ↦ ap (λ (a : Action). is_resolved room.spec (read_of room) j room.spec.rounds && is_write a) (asks_read resolved)
         | inr open_yet ↦
             ap (λ (b : Bool). b && is_write (asks room.spec (read_of room) j room.spec.rounds)) open_yet
             ∙ sym (ap (λ (b : Bool). b && is_write (asks room.spec (fields_by room.spec room.words) j room.spec.rounds)) open_yet)
       ]
-      ∙ ap (λ (b : Bool). b && is_write (asks room.spec (fields_by room.spec room.words) j room.spec.rounds)) (clean_read room j room.spec.rounds)
+      ∙ ap (λ (b : Bool). b && is_write (asks room.spec (fields_by room.spec room.words) j room.spec.rounds)) (resolved_read room j room.spec.rounds)
 
 end_read : (room : RoomState) (fields : Fields) → IsWithinLimits room.spec → AreFieldsOf room fields → (j : ℕ) → j < processes room.spec → end_of (state_of room.spec (read_of room) j) ≡ end_by room.spec room.words j
 end_read room fields limits are j low =

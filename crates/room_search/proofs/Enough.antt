@@ -21,7 +21,7 @@ use Rattle.view_table.specs.declared.place.Place.{Place}
 use Rattle.view_table.specs.declared.place.Place.TheVariants as places
 use Rattle.sim_memory.specs.Steps.{merged_of, row_of, step_in}
 use Rattle.sim_memory.proofs.CallerLemmas.{merged_below, step_below}
-use Rattle.room_core.specs.Agreements.{asks, decided_in, first_with, input_at, is_clean, is_out, outs_at, row_at, shown, shown_by, shown_of, view_at, written}
+use Rattle.room_core.specs.Agreements.{asks, decided_in, first_with, input_at, is_resolved, is_out, outs_at, row_at, shown, shown_by, shown_of, view_at, written}
 use Rattle.room_core.specs.Fields.{StepMap, levels_at}
 use Rattle.room_core.specs.Reading.{words_from}
 use Rattle.room_core.specs.Settled.{is_write}
@@ -47,10 +47,10 @@ found_low p xs some = elim (cases_lt (position_or_len p xs) (length xs)) [
 no_two : (levels : List ℕ) → least_two levels ≡ None → has_level 2 levels ≡ false
 no_two levels none = no_level_from 2 levels (λ i below two. let found = least_two_found levels i below two in absurd (cc))
 
--- the proposal that a clean agreement shows is at level 2
-two_by : (levels : List ℕ) (least : Option ℕ) → least_two levels ≡ least → agreement.is_clean levels ≡ true → get_or levels (unwrap_or least 0) 0 ≡ 2
-two_by levels (Some k) is clean = (least_two_is levels k is).two
-two_by levels None is clean = absurd (true≢false (sym (and_parts (has_level 2 levels) (not (has_level 1 levels)) clean).0 ∙ no_two levels is))
+-- the proposal that a resolved agreement shows is at level 2
+two_by : (levels : List ℕ) (least : Option ℕ) → least_two levels ≡ least → agreement.is_resolved levels ≡ true → get_or levels (unwrap_or least 0) 0 ≡ 2
+two_by levels (Some k) is resolved = (least_two_is levels k is).two
+two_by levels None is resolved = absurd (true≢false (sym (and_parts (has_level 2 levels) (not (has_level 1 levels)) resolved).0 ∙ no_two levels is))
 
 module _ (spec : RoomSpec) (limits : IsWithinLimits spec) (a b : List ℕ) (agree : (place : Place) → IsPlace (sizes_in spec) place → counts spec b place ≡ true → word_at (sizes_in spec) a place ≡ word_at (sizes_in spec) b place) where
   some : 0 < spec.simulators
@@ -71,8 +71,8 @@ module _ (spec : RoomSpec) (limits : IsWithinLimits spec) (a b : List ℕ) (agre
   same_levels : (j k : ℕ) → j < processes spec → 1 ≤ k → k ≤ spec.rounds → levels_at spec (fields_by spec a) j k ≡ levels_at spec (fields_by spec b) j k
   same_levels j k below first last = same_levels_in j k below (agreement_round (sizes_in spec) k (first, last))
 
-  same_clean : (j k : ℕ) → j < processes spec → 1 ≤ k → k ≤ spec.rounds → is_clean spec (fields_by spec a) j k ≡ is_clean spec (fields_by spec b) j k
-  same_clean j k below first last = ap agreement.is_clean (same_levels j k below first last)
+  same_resolved : (j k : ℕ) → j < processes spec → 1 ≤ k → k ≤ spec.rounds → is_resolved spec (fields_by spec a) j k ≡ is_resolved spec (fields_by spec b) j k
+  same_resolved j k below first last = ap agreement.is_resolved (same_levels j k below first last)
 
   same_shown : (j k : ℕ) → j < processes spec → 1 ≤ k → k ≤ spec.rounds → shown_of spec (fields_by spec a) j k ≡ shown_of spec (fields_by spec b) j k
   same_shown j k below first last = ap (λ (l : List ℕ). unwrap_or (least_two l) 0) (same_levels j k below first last)
@@ -83,21 +83,21 @@ module _ (spec : RoomSpec) (limits : IsWithinLimits spec) (a b : List ℕ) (agre
       subst (λ (m : ℕ). shown_of spec (fields_by spec b) j k < m) long (found_low (λ (one : ℕ). eqb one 2) (levels_at spec (fields_by spec b) j k) (omega (arith, long, some)))
 
   -- the level of the simulator whose proposal is shown
-  shown_two : (j k : ℕ) → is_clean spec (fields_by spec b) j k ≡ true → (fields_by spec b).level (shown_of spec (fields_by spec b) j k) j k ≡ 2
-  shown_two j k clean =
+  shown_two : (j k : ℕ) → is_resolved spec (fields_by spec b) j k ≡ true → (fields_by spec b).level (shown_of spec (fields_by spec b) j k) j k ≡ 2
+  shown_two j k resolved =
       let who = shown_of spec (fields_by spec b) j k in
       sym (get_or-map-range_with_len (λ (i : ℕ). (fields_by spec b).level i j k) 0 spec.simulators who who 0 (let low = shown_low j k in omega (arith, low)) (omega arith))
-      ∙ two_by (levels_at spec (fields_by spec b) j k) (least_two (levels_at spec (fields_by spec b) j k)) refl clean
+      ∙ two_by (levels_at spec (fields_by spec b) j k) (least_two (levels_at spec (fields_by spec b) j k)) refl resolved
 
-  same_view : (j k : ℕ) → j < processes spec → 1 ≤ k → k ≤ spec.rounds → is_clean spec (fields_by spec b) j k ≡ true → view_at spec (fields_by spec a) j k ≡ view_at spec (fields_by spec b) j k
-  same_view j k below first last clean =
+  same_view : (j k : ℕ) → j < processes spec → 1 ≤ k → k ≤ spec.rounds → is_resolved spec (fields_by spec b) j k ≡ true → view_at spec (fields_by spec a) j k ≡ view_at spec (fields_by spec b) j k
+  same_view j k below first last resolved =
       let who = shown_of spec (fields_by spec b) j k in
       let words : words_from (sizes_in spec) a (places.View who j k) ≡ words_from (sizes_in spec) b (places.View who j k) =
-      map_same _ _ 0 (memory_words (sizes_in spec)) (λ w low high. agree (places.View who j k w) (shown_low j k, below, (first, last), omega (arith, high)) (eq-eqb _ _ (shown_two j k clean))) in
+      map_same _ _ 0 (memory_words (sizes_in spec)) (λ w low high. agree (places.View who j k w) (shown_low j k, below, (first, last), omega (arith, high)) (eq-eqb _ _ (shown_two j k resolved))) in
       ap (λ (i : ℕ). (fields_by spec a).view i j k) (same_shown j k below first last) ∙ ap (λ (l : List ℕ). step_in (sizes_in spec) l) words
 
-  same_row : (j k : ℕ) → j < processes spec → 1 ≤ k → k ≤ spec.rounds → is_clean spec (fields_by spec b) j k ≡ true → row_at spec (fields_by spec a) j k ≡ row_at spec (fields_by spec b) j k
-  same_row j k below first last clean = ap (λ (steps : StepMap). row_of spec.simulators (processes spec) steps) (same_view j k below first last clean)
+  same_row : (j k : ℕ) → j < processes spec → 1 ≤ k → k ≤ spec.rounds → is_resolved spec (fields_by spec b) j k ≡ true → row_at spec (fields_by spec a) j k ≡ row_at spec (fields_by spec b) j k
+  same_row j k below first last resolved = ap (λ (steps : StepMap). row_of spec.simulators (processes spec) steps) (same_view j k below first last resolved)
 
   same_steps : (fields_by spec a).step ≡ (fields_by spec b).step
   same_steps = ap (λ (l : List ℕ). step_in (sizes_in spec) l) (map_same _ _ 0 (memory_words (sizes_in spec)) (λ w low high. agree (places.Memory w) (omega (arith, high)) refl))
@@ -137,18 +137,18 @@ module _ (spec : RoomSpec) (limits : IsWithinLimits spec) (a b : List ℕ) (agre
     | inr kind ↦ ordinary_input spec (fields_by spec a) kind j ∙ sym (ordinary_input spec (fields_by spec b) kind j)
   ]
 
-  same_asks : (j k : ℕ) → j < processes spec → 1 ≤ k → k ≤ spec.rounds → is_clean spec (fields_by spec b) j k ≡ true → asks spec (fields_by spec a) j k ≡ asks spec (fields_by spec b) j k
-  same_asks j k below first last clean =
+  same_asks : (j k : ℕ) → j < processes spec → 1 ≤ k → k ≤ spec.rounds → is_resolved spec (fields_by spec b) j k ≡ true → asks spec (fields_by spec a) j k ≡ asks spec (fields_by spec b) j k
+  same_asks j k below first last resolved =
       ap (λ (x : ℕ). next_action spec.protocol x j k (shown_by spec (fields_by spec a) (row_at spec (fields_by spec a) j k))) (same_input j below)
-      ∙ ap (λ (row : List ℕ). next_action spec.protocol (input_at spec (fields_by spec b) j) j k (shown_by spec (fields_by spec a) row)) (same_row j k below first last clean)
+      ∙ ap (λ (row : List ℕ). next_action spec.protocol (input_at spec (fields_by spec b) j) j k (shown_by spec (fields_by spec a) row)) (same_row j k below first last resolved)
       ∙ ap (λ (l : List (Option ℕ)). next_action spec.protocol (input_at spec (fields_by spec b) j) j k l) (same_shown_by (row_at spec (fields_by spec b) j k) (row_low j k))
 
   same_spent : (j : ℕ) → j < processes spec → is_spent spec (fields_by spec a) j ≡ is_spent spec (fields_by spec b) j
   same_spent j below =
-      let clean = same_clean j spec.rounds below rounds (omega arith) in
-      ap (λ (c : Bool). c && is_write (asks spec (fields_by spec a) j spec.rounds)) clean
-      ∙ elim (cases_Bool (is_clean spec (fields_by spec b) j spec.rounds)) [
-        | inl yes_it ↦ ap (λ (x : Action). is_clean spec (fields_by spec b) j spec.rounds && is_write x) (same_asks j spec.rounds below rounds (omega arith) yes_it)
+      let resolved = same_resolved j spec.rounds below rounds (omega arith) in
+      ap (λ (c : Bool). c && is_write (asks spec (fields_by spec a) j spec.rounds)) resolved
+      ∙ elim (cases_Bool (is_resolved spec (fields_by spec b) j spec.rounds)) [
+        | inl yes_it ↦ ap (λ (x : Action). is_resolved spec (fields_by spec b) j spec.rounds && is_write x) (same_asks j spec.rounds below rounds (omega arith) yes_it)
         | inr no_it ↦
             ap (λ (c : Bool). c && is_write (asks spec (fields_by spec a) j spec.rounds)) no_it
             ∙ sym (ap (λ (c : Bool). c && is_write (asks spec (fields_by spec b) j spec.rounds)) no_it)

@@ -108,38 +108,36 @@ fn close(
     if has_crashed(subject, i) {
         return Ok(());
     }
+    let _m = subject.spec.m(); // for the proof: it is at most 8
     let mut at = 0;
     while at < set.len() {
-        go_alone(subject, moves, said, i, set, at)?;
+        let from = Situation {
+            said,
+            simulator: i as u8,
+            number: set[at],
+        };
+        go_alone(subject, moves, from, set)?;
         at += 1;
     }
     Ok(())
 }
 
-/// Adds to a set what comes of its member at this place by one step, if that leaves what is said as it is.
+/// Adds to a set what comes of one of its members by one step, if that leaves what is said as it is.
 fn go_alone(
     subject: &Subject<'_>,
     moves: &mut Moves,
-    said: u32,
-    i: usize,
+    from: Situation,
     set: &mut Vec<u32>,
-    at: usize,
 ) -> Result<(), SearchFault>
     requires moves { AreMoves subject.now.spec.now moves.old }
-    requires said { said < length moves.old.said.keys }
-    requires simulator { i < subject.now.spec.now.simulators }
+    requires said { from.said < length moves.old.said.keys }
+    requires simulator { from.simulator < subject.now.spec.now.simulators }
     requires numbers { AreNumbers moves.old.table.keys set.old.items }
-    requires there { at < length set.old.items }
+    requires number { from.number < length moves.old.table.keys }
     ensures moves { OnOk result (GoOn subject.now.spec.now moves.old moves.new) }
     ensures numbers { OnOk result (AreNumbers moves.new.table.keys set.new.items) }
     ensures kept { OnOk result (AreIn set.old.items set.new.items) }
 {
-    let _m = subject.spec.m(); // for the proof: it is at most 8
-    let from = Situation {
-        said,
-        simulator: i as u8,
-        number: set[at],
-    };
     let lead = moves.lead(subject, from)?;
     let Lead::To {
         said: after,
@@ -148,7 +146,7 @@ fn go_alone(
     else {
         return Ok(());
     };
-    if after == said {
+    if after == from.said {
         put(set, number)?;
     }
     Ok(())

@@ -1,9 +1,10 @@
 //! Schedules that lead to a node. Whether one leads there is seen when it is run: nothing is promised here.
 ghost use Rattle.std.specs.Prelude.{◌<◌};
 ghost use Rattle.room_search.specs.Searches.{IsSearched};
-ghost use Rattle.room_search.specs.Steps.{AreWords};
+ghost use Rattle.room_search.specs.Steps.{AreWords, IsLocal};
 
 use crate::explored::Explored;
+use crate::local::Local;
 use crate::node::Node;
 use crate::stepping::{Next, after_step, local_of};
 use crate::subject::{Subject, has_crashed};
@@ -25,6 +26,14 @@ struct Way {
     index: usize,
     numbers: Numbers,
     stretches: Vec<Stretch>,
+}
+
+/// A simulator, and the node in which it takes steps.
+#[derive(Clone, Copy)]
+struct Mover<'a> {
+    subject: &'a Subject<'a>,
+    node: &'a Node,
+    simulator: usize,
 }
 
 /// A schedule from the start to the node of this index, after which the simulators are in the local states of these numbers, as far as one is found.
@@ -56,6 +65,17 @@ pub fn schedule_to(
     Ok(schedule)
 }
 
+impl Mover<'_> {
+    /// What comes of its next step in the node, from this local state.
+    fn step_from(&self, local: &Local) -> Result<Next, AllocError>
+        requires said { AreWords self.now.subject.now.spec.now self.now.node.now.said }
+        requires simulator { self.now.simulator < self.now.subject.now.spec.now.simulators }
+        requires local { IsLocal self.now.subject.now.spec.now local.now }
+    {
+        after_step(self.subject, self.node.said(), self.simulator, local)
+    }
+}
+
 impl Explored {
     /// Goes back to the node from which the way's node was reached first. Gives whether a way was found.
     fn go_back(&self, subject: &Subject<'_>, way: &mut Way) -> Result<bool, AllocError>
@@ -65,7 +85,12 @@ impl Explored {
             return Ok(false);
         };
         for i in 0..subject.spec.m() {
-            if !has_crashed(subject, i) && !self.go_back_alone(subject, node, i, way)? {
+            let mover = Mover {
+                subject,
+                node,
+                simulator: i,
+            };
+            if !has_crashed(subject, i) && !self.go_back_alone(mover, way)? {
                 return Ok(false);
             }
         }
@@ -82,24 +107,19 @@ impl Explored {
         Ok(true)
     }
 
-    /// Goes back over the steps by which simulator `i` came to its local state on the way, in its node: the fewest. Gives whether some were found.
-    fn go_back_alone(
-        &self,
-        subject: &Subject<'_>,
-        node: &Node,
-        i: usize,
-        way: &mut Way,
-    ) -> Result<bool, AllocError>
-        requires searched { IsSearched subject.now.spec.now self.now }
-        requires said { AreWords subject.now.spec.now node.now.said }
-        requires simulator { i < subject.now.spec.now.simulators }
+    /// Goes back over the steps by which the simulator came to its local state on the way, in its node: the fewest. Gives whether some were found.
+    fn go_back_alone(&self, mover: Mover<'_>, way: &mut Way) -> Result<bool, AllocError>
+        requires searched { IsSearched mover.subject.now.spec.now self.now }
+        requires said { AreWords mover.subject.now.spec.now mover.node.now.said }
+        requires simulator { mover.simulator < mover.subject.now.spec.now.simulators }
     {
-        let _m = subject.spec.m(); // for the proof: it is at most 8
+        let _m = mover.subject.spec.m(); // for the proof: it is at most 8
+        let i = mover.simulator;
         let Some(to) = number_at(&way.numbers, i) else {
             return Ok(false);
         };
-        let starts = self.starts(subject, way.index, node, i)?;
-        let Some(start) = self.nearest(subject, node, i, starts.as_slice(), to)? else {
+        let starts = self.starts(mover, way.index)?;
+        let Some(start) = self.nearest(mover, starts.as_slice(), to)? else {
             return Ok(false);
         };
         put(&mut way.numbers, i, start.number);
@@ -107,22 +127,20 @@ impl Explored {
         Ok(true)
     }
 
-    /// The start from which the fewest steps of simulator `i` in a node lead to the local state of this number.
+    /// The start from which the fewest steps of the simulator in the node lead to the local state of this number.
     fn nearest(
         &self,
-        subject: &Subject<'_>,
-        node: &Node,
-        i: usize,
+        mover: Mover<'_>,
         starts: &[u32],
         to: u32,
     ) -> Result<Option<Start>, AllocError>
-        requires searched { IsSearched subject.now.spec.now self.now }
-        requires said { AreWords subject.now.spec.now node.now.said }
-        requires simulator { i < subject.now.spec.now.simulators }
+        requires searched { IsSearched mover.subject.now.spec.now self.now }
+        requires said { AreWords mover.subject.now.spec.now mover.node.now.said }
+        requires simulator { mover.simulator < mover.subject.now.spec.now.simulators }
     {
         let mut best: Option<Start> = None;
         for number in starts {
-            if let Some(steps) = self.steps_between(subject, node, i, *number, to)? {
+            if let Some(steps) = self.steps_between(mover, *number, to)? {
                 best = nearer(
                     best,
                     Start {
@@ -135,17 +153,16 @@ impl Explored {
         Ok(best)
     }
 
-    /// The numbers of the local states in which simulator `i` may have been when the node of this index was reached first.
-    fn starts(
-        &self,
-        subject: &Subject<'_>,
-        index: usize,
-        node: &Node,
-        i: usize,
-    ) -> Result<Vec<u32>, AllocError>
-        requires searched { IsSearched subject.now.spec.now self.now }
-        requires simulator { i < subject.now.spec.now.simulators }
+    /// The numbers of the local states in which the simulator may have been when its node, which has this index, was reached first.
+    fn starts(&self, mover: Mover<'_>, index: usize) -> Result<Vec<u32>, AllocError>
+        requires searched { IsSearched mover.subject.now.spec.now self.now }
+        requires simulator { mover.simulator < mover.subject.now.spec.now.simulators }
     {
+        let Mover {
+            subject,
+            node,
+            simulator: i,
+        } = mover;
         let mut starts = Vec::new(subject.alloc);
         let origin = node.origin();
         let Some(before) = self.nodes.get(origin.from as usize) else {
@@ -154,30 +171,32 @@ impl Explored {
         if index == 0 {
             push_first(node, i, &mut starts)?;
         } else if i == usize::from(origin.simulator) {
-            self.push_after(subject, before, i, origin.number, &mut starts)?;
+            let mover = Mover {
+                node: before,
+                ..mover
+            };
+            self.push_after(mover, origin.number, &mut starts)?;
         } else if i < before.width() {
             starts.extend_from_slice(before.set(i))?;
         }
         Ok(starts)
     }
 
-    /// Adds the number of the local state of simulator `i` after its next step in a node, from that of this number.
+    /// Adds the number of the local state of the simulator after its next step in the node, from that of this number.
     fn push_after(
         &self,
-        subject: &Subject<'_>,
-        node: &Node,
-        i: usize,
+        mover: Mover<'_>,
         number: u32,
         starts: &mut Vec<u32>,
     ) -> Result<(), AllocError>
-        requires searched { IsSearched subject.now.spec.now self.now }
-        requires said { AreWords subject.now.spec.now node.now.said }
-        requires simulator { i < subject.now.spec.now.simulators }
+        requires searched { IsSearched mover.subject.now.spec.now self.now }
+        requires said { AreWords mover.subject.now.spec.now mover.node.now.said }
+        requires simulator { mover.simulator < mover.subject.now.spec.now.simulators }
     {
         let Some(local) = self.moves.table.get_index(number as usize) else {
             return Ok(());
         };
-        let Next::To(after) = after_step(subject, node.said(), i, local)? else {
+        let Next::To(after) = mover.step_from(local)? else {
             return Ok(());
         };
         if let Some(number) = number_of(&self.moves.table, &local_of(after)) {
@@ -186,20 +205,13 @@ impl Explored {
         Ok(())
     }
 
-    /// How many steps of simulator `i` in a node lead from the local state of one number to that of another, if some do and none of them changes what is said.
-    fn steps_between(
-        &self,
-        subject: &Subject<'_>,
-        node: &Node,
-        i: usize,
-        from: u32,
-        to: u32,
-    ) -> Result<Option<u16>, AllocError>
-        requires searched { IsSearched subject.now.spec.now self.now }
-        requires said { AreWords subject.now.spec.now node.now.said }
-        requires simulator { i < subject.now.spec.now.simulators }
+    /// How many steps of the simulator in the node lead from the local state of one number to that of another, if some do and none of them changes what is said.
+    fn steps_between(&self, mover: Mover<'_>, from: u32, to: u32) -> Result<Option<u16>, AllocError>
+        requires searched { IsSearched mover.subject.now.spec.now self.now }
+        requires said { AreWords mover.subject.now.spec.now mover.node.now.said }
+        requires simulator { mover.simulator < mover.subject.now.spec.now.simulators }
     {
-        let most = count_in(node, i);
+        let most = count_in(mover.node, mover.simulator);
         let mut number = from;
         for count in 0..MOST_STEPS {
             if number == to {
@@ -208,7 +220,7 @@ impl Explored {
             if usize::from(count) >= most {
                 return Ok(None); // one of the local states has come again
             }
-            let Some(next) = self.alone(subject, node, i, number)? else {
+            let Some(next) = self.alone(mover, number)? else {
                 return Ok(None);
             };
             number = next;
@@ -216,25 +228,19 @@ impl Explored {
         Ok(None)
     }
 
-    /// The number of the local state of simulator `i` after its next step in a node, if the step leaves what is said as it is.
-    fn alone(
-        &self,
-        subject: &Subject<'_>,
-        node: &Node,
-        i: usize,
-        number: u32,
-    ) -> Result<Option<u32>, AllocError>
-        requires searched { IsSearched subject.now.spec.now self.now }
-        requires said { AreWords subject.now.spec.now node.now.said }
-        requires simulator { i < subject.now.spec.now.simulators }
+    /// The number of the local state of the simulator after its next step in the node, if the step leaves what is said as it is.
+    fn alone(&self, mover: Mover<'_>, number: u32) -> Result<Option<u32>, AllocError>
+        requires searched { IsSearched mover.subject.now.spec.now self.now }
+        requires said { AreWords mover.subject.now.spec.now mover.node.now.said }
+        requires simulator { mover.simulator < mover.subject.now.spec.now.simulators }
     {
         let Some(local) = self.moves.table.get_index(number as usize) else {
             return Ok(None);
         };
-        let Next::To(after) = after_step(subject, node.said(), i, local)? else {
+        let Next::To(after) = mover.step_from(local)? else {
             return Ok(None);
         };
-        if after.said.shown.as_slice() != node.said().as_slice() {
+        if after.said.shown.as_slice() != mover.node.said().as_slice() {
             return Ok(None);
         }
         Ok(number_of(&self.moves.table, &local_of(after)))

@@ -19,7 +19,7 @@ use level_cells::field;
 use protocol_lang::{Action, View, next};
 use room_spec::MAX_PROCESSES;
 use run_search::{Ended, Ends};
-use safe_agreement::{is_clean, least_at};
+use safe_agreement::{is_resolved, least_at};
 use sim_memory::{last_writes, step_of};
 use view_table::{Place, index};
 
@@ -102,7 +102,7 @@ fn is_spent(subject: &Subject<'_>, words: &[u64], j: usize) -> bool
     ensures { result ≡ is_spent subject.now.spec.now (fields_by subject.now.spec.now words.now) j }
 {
     let last = subject.spec.rounds();
-    is_clean(levels_word(subject, words, j, last), subject.spec.m())
+    is_resolved(levels_word(subject, words, j, last), subject.spec.m())
         && matches!(asks(subject, words, j, last), Action::Write(_))
 }
 

@@ -13,7 +13,7 @@ ghost use Rattle.room_search.specs.Steps.{AreWords, IsKnowledge};
 
 use crate::subject::Subject;
 use safe_agreement::resolved_in;
-use simulator::{Goal, Knowledge, Mind};
+use simulator::{Goal, Knowledge};
 use view_table::{Place, index};
 
 /// Whether a simulator that knows this can go no further in some room of which this is said.
@@ -22,9 +22,8 @@ pub fn may_rest(subject: &Subject<'_>, said: &[u64], known: &Knowledge) -> bool
     requires said { AreWords subject.now.spec.now said.now }
     ensures { result ≡ false → (words : List ℕ) → DoSay said.now words → Rests subject.now.spec.now words (mind_of known.now).goals → ⊥ }
 {
-    let mind = Mind::knowing(known);
     for j in 0..subject.spec.n() {
-        if !may_wait(subject, said, j, mind.goal(j)) {
+        if !may_wait(subject, said, j, known.goal(j)) {
             return false;
         }
     }

@@ -99,9 +99,14 @@ fn pass_on(subject: &Subject<'_>, i: usize, mind: &Mind, said: &mut Said)
     let Some((process, round)) = turn_of(subject, mind) else {
         return pass_on_input(subject, i, mind, said);
     };
+    let work = Work {
+        simulator: i,
+        process,
+        round,
+    };
     match mind.line() {
-        Line::Raise => pass_value(subject, i, process, round, said),
-        Line::Leave { saw_two } => pass_view(subject, i, process, round, saw_two, said),
+        Line::Raise => pass_value(subject, work, said),
+        Line::Leave { saw_two } => pass_view(subject, work, saw_two, said),
         _ => {}
     }
 }
@@ -139,18 +144,26 @@ fn turn_of(subject: &Subject<'_>, mind: &Mind) -> Option<(usize, usize)>
     }
 }
 
+/// A simulator, and the process and the round, from 1 on, on which it works.
+#[derive(Clone, Copy)]
+struct Work {
+    simulator: usize,
+    process: usize,
+    round: usize,
+}
+
 /// The simulator has counted its write of this round: others can read the value.
-fn pass_value(subject: &Subject<'_>, i: usize, process: usize, round: usize, said: &mut Said)
-    requires simulator { i < subject.now.spec.now.simulators }
-    requires process { process < processes subject.now.spec.now }
-    requires round { (1 ≤ round) × (round ≤ subject.now.spec.now.rounds) }
+fn pass_value(subject: &Subject<'_>, work: Work, said: &mut Said)
+    requires simulator { work.simulator < subject.now.spec.now.simulators }
+    requires process { work.process < processes subject.now.spec.now }
+    requires round { (1 ≤ work.round) × (work.round ≤ subject.now.spec.now.rounds) }
     requires said { AreSaid subject.now.spec.now said.old }
     ensures { SaysNoMore subject.now.spec.now said.old said.new }
 {
     let value = Place::Value {
-        simulator: i,
-        process,
-        round,
+        simulator: work.simulator,
+        process: work.process,
+        round: work.round,
     };
     said.publish(index(&subject.spec.shape(), value));
 }
@@ -173,26 +186,19 @@ fn pass_input(subject: &Subject<'_>, i: usize, process: usize, said: &mut Said)
 }
 
 /// The simulator has left the agreement: others can read its proposal, or none ever will.
-fn pass_view(
-    subject: &Subject<'_>,
-    i: usize,
-    process: usize,
-    round: usize,
-    withdrawn: bool,
-    said: &mut Said,
-)
-    requires simulator { i < subject.now.spec.now.simulators }
-    requires process { process < processes subject.now.spec.now }
-    requires round { (1 ≤ round) × (round ≤ subject.now.spec.now.rounds) }
+fn pass_view(subject: &Subject<'_>, work: Work, withdrawn: bool, said: &mut Said)
+    requires simulator { work.simulator < subject.now.spec.now.simulators }
+    requires process { work.process < processes subject.now.spec.now }
+    requires round { (1 ≤ work.round) × (work.round ≤ subject.now.spec.now.rounds) }
     requires said { AreSaid subject.now.spec.now said.old }
     ensures { SaysNoMore subject.now.spec.now said.old said.new }
 {
     let shape = subject.spec.shape();
     for word in 0..shape.memory_words() {
         let view = Place::View {
-            simulator: i,
-            process,
-            round,
+            simulator: work.simulator,
+            process: work.process,
+            round: work.round,
             word,
         };
         pass_word(index(&shape, view), withdrawn, said);

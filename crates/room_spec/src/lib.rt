@@ -15,10 +15,10 @@ mod version;
 
 pub use block::{Block, block_len, read_block, read_reduction};
 pub use fault::SpecFault;
-pub use name::Name;
+pub use name::{MAX_NAME, Name};
 pub use protocols::Protocols;
 pub use spec::{
-    MAX_AGREED, MAX_MEMORY_WORDS, MAX_PROCESSES, MAX_ROUNDS, MAX_SIMULATORS, Shape, Spec,
+    MAX_AGREED, MAX_MEMORY_WORDS, MAX_PROCESSES, MAX_ROUNDS, MAX_SIMULATORS, MAX_TURNS, Shape, Spec,
 };
 pub use spelled::Spelled;
 pub use text::{cut, cut_near};

@@ -16,7 +16,7 @@ use std::marker::Model;
 use std::{fmt, str};
 
 /// The longest name, in bytes.
-const MAX_NAME: usize = 32;
+pub const MAX_NAME: usize = 32;
 
 /// The name of a room: 1 to 32 letters from `a` to `z`, digits, `_` and `-`.
 #[derive(Drop)]

@@ -23,7 +23,7 @@ pub const MAX_ROUNDS: u16 = 15;
 pub const MAX_MEMORY_WORDS: usize = 4;
 
 /// The most turns of a simulator.
-pub(crate) const MAX_TURNS: u16 = 65535;
+pub const MAX_TURNS: u16 = 65535;
 
 /// The most different values that a task lets the processes decide.
 pub const MAX_AGREED: usize = 16;
@@ -82,18 +82,19 @@ impl Shape {
 /// inputs of their own, and agree on those of the processes.
 #[derive(Drop)]
 pub struct Spec {
+    // Fields lie in this order in memory. The small ones are side by side, since a spec is passed on by value.
     pub(crate) version: Version,
+    pub(crate) simulators: u8,
+    pub(crate) rounds: u8,
+    /// How many memory words there are.
+    pub(crate) words: u8,
+    pub(crate) turns: u16,
+    pub(crate) task: Option<u8>,
     pub(crate) name: Name,
     pub(crate) inputs: ArrayVec<u32, MAX_PROCESSES>,
     /// Empty in an ordinary room.
     pub(crate) own: ArrayVec<u32, MAX_SIMULATORS>,
-    pub(crate) simulators: u8,
-    pub(crate) rounds: u8,
-    pub(crate) turns: u16,
-    pub(crate) task: Option<u8>,
     pub(crate) fuses: ArrayVec<(u8, u32), MAX_SIMULATORS>,
-    /// How many memory words there are.
-    pub(crate) words: u8,
     pub(crate) protocol: Arc<Protocol, Global>,
 }
 

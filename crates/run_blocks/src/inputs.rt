@@ -88,7 +88,7 @@ pub fn put_inputs(output: &mut Text, inputs: &[u32]) -> Result<(), AllocError>
     ensures small { OnOk result (list_all is_value inputs.now ≡ true) }
 {
     for input in inputs {
-        output.put_number(u64::from(*input))?;
+        output.put_spaced_number(u64::from(*input))?;
     }
     Ok(())
 }

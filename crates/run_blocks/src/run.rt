@@ -64,6 +64,6 @@ fn put_simulators(output: &mut Text, simulators: usize) -> Result<(), AllocError
     ensures { OnOk result (output.new ≡ output.old ++ ((codes "simulators" ++ (32 ∷ decimal simulators)) ++ line_end)) }
 {
     output.put(b"simulators")?;
-    output.put_number(simulators as u64)?;
+    output.put_spaced_number(simulators as u64)?;
     output.put(b"\n")
 }

@@ -168,7 +168,7 @@ fn write_inputs(output: &mut Text, spec: &Spec) -> Result<(), AllocError>
     ensures { OnOk result (output.new ≡ output.old ++ inputs_words spec.now.inputs) }
 {
     for process in 0..spec.n() {
-        output.put_number(u64::from(spec.input(process)))?;
+        output.put_spaced_number(u64::from(spec.input(process)))?;
     }
     Ok(())
 }
@@ -237,6 +237,6 @@ fn write_own_input(output: &mut Text, own: Option<u32>) -> Result<(), AllocError
 {
     match own {
         None => Ok(()),
-        Some(own) => output.put_number(u64::from(own)),
+        Some(own) => output.put_spaced_number(u64::from(own)),
     }
 }

@@ -312,7 +312,7 @@ fn state_words(alloc: Global, panel: &Panel, state: ProcessState) -> Result<Text
     match state {
         ProcessState::Decided(value) => {
             words.put(b"decided")?;
-            words.put_number(u64::from(value))?;
+            words.put_spaced_number(u64::from(value))?;
         }
         ProcessState::Spent => words.put(b"spent")?,
         ProcessState::Held(simulator) => {
@@ -376,7 +376,7 @@ fn event_words(alloc: Global, event: &Event) -> Result<Text, AllocError>
     match event {
         Event::Write { v, .. } => {
             words.put(b"write")?;
-            words.put_number(u64::from(*v))?;
+            words.put_spaced_number(u64::from(*v))?;
         }
         Event::Snap { row, .. } => {
             words.put(b"snap")?;
@@ -384,7 +384,7 @@ fn event_words(alloc: Global, event: &Event) -> Result<Text, AllocError>
         }
         Event::Decide { v, .. } => {
             words.put(b"decide")?;
-            words.put_number(u64::from(*v))?;
+            words.put_spaced_number(u64::from(*v))?;
         }
     }
     Ok(words)
@@ -405,7 +405,7 @@ fn write_entry(output: &mut Text, entry: Option<u32>) -> Result<(), AllocError>
 {
     match entry {
         None => output.put(b" ."),
-        Some(value) => output.put_number(u64::from(value)),
+        Some(value) => output.put_spaced_number(u64::from(value)),
     }
 }
 

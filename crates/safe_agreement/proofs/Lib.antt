@@ -1,5 +1,5 @@
 pub mod CallerLemmas
-mod Clean
+mod Resolving
 mod Steps
 mod Replays
 mod Worked

@@ -10,7 +10,7 @@ use Rattle.std.proofs.lemmas.List.FromFn.{length-map-range_with_len, get_or-map-
 use Rattle.std.proofs.lemmas.List.Sums.{position_or_len_is}
 use Rattle.level_cells.specs.Fields.{level_of, levels_of}
 use Rattle.safe_agreement.specs.Levels.{has_level}
-use Rattle.safe_agreement.proofs.Clean.{some_level}
+use Rattle.safe_agreement.proofs.Resolving.{some_level}
 
 length-levels_of : (word m : ℕ) → length (levels_of word m) ≡ m
 length-levels_of word m = length-map-range_with_len (λ i. level_of word i) 0 m

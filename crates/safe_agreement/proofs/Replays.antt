@@ -1,8 +1,8 @@
 -- What lists of changes of one agreement leave as it was.
 use Rattle.std.proofs.Common.{◌≡◌, ◌≢◌, ℕ, ◌<◌, Bool, zero, suc, List, [], ◌∷◌, length, take, Option, Some, None, refl, sym, ap, ◌∙◌, arith}
-use Rattle.safe_agreement.specs.Levels.{IsClean, least_two, resolved_of}
+use Rattle.safe_agreement.specs.Levels.{IsResolved, least_two, resolved_of}
 use Rattle.safe_agreement.specs.Phases.{Phase, Looked, Left, Change, phase_level, phase_levels, IsFixed, HasTwoBeside, HaveSameTwos, after_change, after_changes, AreLegal}
-use Rattle.safe_agreement.proofs.Clean.{SameTwos, least_two_is, least_two_found, same_least, resolves_least, resolved_to, clean_from}
+use Rattle.safe_agreement.proofs.Resolving.{SameTwos, least_two_is, least_two_found, same_least, resolves_least, resolved_to, is_resolved_by}
 use Rattle.safe_agreement.proofs.Steps.{length_of_levels, level_at, stays_fixed, keeps_twos, step_of_change, stays_beside}
 
 -- ---- the least simulator at level 2
@@ -36,21 +36,21 @@ least_of_same levels others same None None is is' = refl
 pub same_least_two : (m : ℕ) (phases others : ℕ → Phase) → HaveSameTwos m phases others → least_two (phase_levels m phases) ≡ least_two (phase_levels m others)
 same_least_two m phases others same = least_of_same _ _ (same_twos_of_levels m phases others same) _ _ refl refl
 
--- ---- a clean agreement is fixed
+-- ---- a resolved agreement is fixed
 
 looked_is_one : (phase : Phase) (saw : Bool) → phase ≡ Looked saw → phase_level phase ≡ 1
 looked_is_one phase saw is = ap phase_level is
 
-pub clean_is_fixed : (m : ℕ) (phases : ℕ → Phase) → IsClean (phase_levels m phases) → IsFixed m phases
-clean_is_fixed m phases clean =
-    let below : clean.simulator < m = let l = length_of_levels m phases in let b = clean.below in omega arith in
+pub resolved_is_fixed : (m : ℕ) (phases : ℕ → Phase) → IsResolved (phase_levels m phases) → IsFixed m phases
+resolved_is_fixed m phases resolved =
+    let below : resolved.simulator < m = let l = length_of_levels m phases in let b = resolved.below in omega arith in
     record {
-      two = (clean.simulator, below, sym (level_at m phases clean.simulator below) ∙ clean.two);
-      seen = λ i saw within is. absurd (clean.no_one i (let l = length_of_levels m phases in omega arith) (level_at m phases i within ∙ looked_is_one (phases i) saw is));
+      two = (resolved.simulator, below, sym (level_at m phases resolved.simulator below) ∙ resolved.two);
+      seen = λ i saw within is. absurd (resolved.no_one i (let l = length_of_levels m phases in omega arith) (level_at m phases i within ∙ looked_is_one (phases i) saw is));
     }
 
--- where one has left and nobody is inside, the agreement is clean
-pub settles : (m : ℕ) (phases : ℕ → Phase) (i level : ℕ) → HasTwoBeside m phases → i < m → phases i ≡ Left level → ((k : ℕ) → k < m → phase_level (phases k) ≢ 1) → IsClean (phase_levels m phases)
+-- where one has left and nobody is inside, the agreement is resolved
+pub settles : (m : ℕ) (phases : ℕ → Phase) (i level : ℕ) → HasTwoBeside m phases → i < m → phases i ≡ Left level → ((k : ℕ) → k < m → phase_level (phases k) ≢ 1) → IsResolved (phase_levels m phases)
 settles m phases i level beside below left quiet =
     let two = beside.left i level below left in
     record {
@@ -88,9 +88,9 @@ stays_beside_on m phases (change ∷ changes) legal beside =
 
 -- ---- resolved
 
--- what a fixed agreement resolves to, once it is clean
-pub resolves_as_fixed : (m : ℕ) (phases : ℕ → Phase) (changes : List Change) → AreLegal m phases changes → IsFixed m phases → IsClean (phase_levels m (after_changes m phases changes)) → resolved_of (phase_levels m (after_changes m phases changes)) ≡ least_two (phase_levels m phases)
-resolves_as_fixed m phases changes legal fixed clean = resolves_least _ clean ∙ sym (same_least_two m phases (after_changes m phases changes) (keeps_twos_on m phases changes legal fixed))
+-- what a fixed agreement resolves to, once it is resolved
+pub resolves_as_fixed : (m : ℕ) (phases : ℕ → Phase) (changes : List Change) → AreLegal m phases changes → IsFixed m phases → IsResolved (phase_levels m (after_changes m phases changes)) → resolved_of (phase_levels m (after_changes m phases changes)) ≡ least_two (phase_levels m phases)
+resolves_as_fixed m phases changes legal fixed resolved = resolves_least _ resolved ∙ sym (same_least_two m phases (after_changes m phases changes) (keeps_twos_on m phases changes legal fixed))
 
 some_same : (i k : ℕ) → ◌≡◌ {A = Option ℕ} (Some i) (Some k) → i ≡ k
 some_same i k is = cc
@@ -102,14 +102,14 @@ legal_take m phases (change ∷ changes) (suc n) legal = (legal.0, legal.1, lega
 
 later_agrees : (m : ℕ) (phases : ℕ → Phase) (changes : List Change) (i k : ℕ) → AreLegal m phases changes → resolved_of (phase_levels m phases) ≡ Some i → resolved_of (phase_levels m (after_changes m phases changes)) ≡ Some k → i ≡ k
 later_agrees m phases changes i k legal is is' =
-    let clean = clean_from _ i (resolved_to _ i is) in
-    let clean' = clean_from _ k (resolved_to _ k is') in
-    some_same i k (sym is ∙ resolves_least _ clean ∙ sym (resolves_as_fixed m phases changes legal (clean_is_fixed m phases clean) clean') ∙ is')
+    let resolved = is_resolved_by _ i (resolved_to _ i is) in
+    let resolved' = is_resolved_by _ k (resolved_to _ k is') in
+    some_same i k (sym is ∙ resolves_least _ resolved ∙ sym (resolves_as_fixed m phases changes legal (resolved_is_fixed m phases resolved) resolved') ∙ is')
 
-pub resolves_again : (m : ℕ) (phases : ℕ → Phase) (changes : List Change) (i : ℕ) → AreLegal m phases changes → resolved_of (phase_levels m phases) ≡ Some i → IsClean (phase_levels m (after_changes m phases changes)) → resolved_of (phase_levels m (after_changes m phases changes)) ≡ Some i
-resolves_again m phases changes i legal is clean' =
-    let clean = clean_from _ i (resolved_to _ i is) in
-    resolves_as_fixed m phases changes legal (clean_is_fixed m phases clean) clean' ∙ sym (resolves_least _ clean) ∙ is
+pub resolves_again : (m : ℕ) (phases : ℕ → Phase) (changes : List Change) (i : ℕ) → AreLegal m phases changes → resolved_of (phase_levels m phases) ≡ Some i → IsResolved (phase_levels m (after_changes m phases changes)) → resolved_of (phase_levels m (after_changes m phases changes)) ≡ Some i
+resolves_again m phases changes i legal is resolved' =
+    let resolved = is_resolved_by _ i (resolved_to _ i is) in
+    resolves_as_fixed m phases changes legal (resolved_is_fixed m phases resolved) resolved' ∙ sym (resolves_least _ resolved) ∙ is
 
 -- two moments of one list: the later is a continuation of the earlier
 pub moments_agree : (m : ℕ) (phases : ℕ → Phase) (changes : List Change) (a b i k : ℕ) → AreLegal m phases changes → resolved_of (phase_levels m (after_changes m phases (take a changes))) ≡ Some i → resolved_of (phase_levels m (after_changes m phases (take b changes))) ≡ Some k → i ≡ k

@@ -8,7 +8,7 @@ use Rattle.std.proofs.lemmas.List.Folds.{Any-from_list_any}
 use Rattle.std.proofs.lemmas.List.FromFn.{length-map-range_with_len, get_or-map-range_with_len}
 use Rattle.safe_agreement.specs.Levels.{has_level, left_level}
 use Rattle.safe_agreement.specs.Phases.{Phase, Before, Entered, Looked, Left, Change, Enters, Looks, Leaves, phase_level, phase_levels, mover, MayMove, moved, IsStep, HasTwo, IsFixed, HasTwoBeside, HaveSameTwos, before_all, after_change}
-use Rattle.safe_agreement.proofs.Clean.{has_level_at}
+use Rattle.safe_agreement.proofs.Resolving.{has_level_at}
 
 -- ---- levels
 

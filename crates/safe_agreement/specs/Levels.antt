@@ -16,15 +16,15 @@ abbrev pub leave_of : List ℕ → ℕ
 leave_of levels = left_level (has_level 2 levels)
 
 -- some level is 2, and none is 1
-pub record IsClean (levels : List ℕ) : Type 0 where
+pub record IsResolved (levels : List ℕ) : Type 0 where
   pub simulator : ℕ
   pub below : simulator < length levels
   pub two : slice_index levels simulator ≡ 2
   pub no_one : (i : ℕ) → i < length levels → slice_index levels i ≢ 1
 
 -- the same as a test
-abbrev pub is_clean : List ℕ → Bool
-is_clean levels = has_level 2 levels && not (has_level 1 levels)
+abbrev pub is_resolved : List ℕ → Bool
+is_resolved levels = has_level 2 levels && not (has_level 1 levels)
 
 -- the least simulator at level 2, if none is at level 1
 pub record IsResolvedTo (levels : List ℕ) (simulator : ℕ) : Type 0 where

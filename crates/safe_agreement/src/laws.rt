@@ -4,7 +4,7 @@
 //! in it, and of changes in any order: one simulator enters, looks or leaves (E. Borowsky and
 //! others, "The BG distributed simulation algorithm", Distributed Computing 14(3), 2001).
 ghost use Rattle.std.specs.Prelude.{ℕ, ◌≡◌, ◌≢◌, ◌<◌, ◌↔◌, Bool, List, Some, length, slice_index, take};
-ghost use Rattle.safe_agreement.specs.Levels.{IsClean, IsResolvedTo, least_two, leave_of, resolved_of};
+ghost use Rattle.safe_agreement.specs.Levels.{IsResolved, IsResolvedTo, least_two, leave_of, resolved_of};
 ghost use Rattle.safe_agreement.specs.Phases.{Phase, Entered, Left, Change, Looks, Leaves, phase_level, phase_levels, mover, MayMove, moved, IsStep, IsFixed, HasTwoBeside, HaveSameTwos, before_all, after_change, after_changes, AreLegal};
 
 /// The levels of simulators 0 to m - 1, in their order.
@@ -22,17 +22,17 @@ pub fn leaves_as_seen()
     ensures { (seen now : List ℕ) (i : ℕ) → moved now (Leaves i) (moved seen (Looks i) Entered) ≡ Left (leave_of seen) }
 {}
 
-/// An agreement resolves to the least simulator at level 2 if none is at level 1, and a clean
+/// An agreement resolves to the least simulator at level 2 if none is at level 1, and a resolved
 /// agreement always has one.
 pub fn resolves()
     ensures to { (levels : List ℕ) (i : ℕ) → (resolved_of levels ≡ Some i) ↔ IsResolvedTo levels i }
-    ensures least { (levels : List ℕ) → IsClean levels → resolved_of levels ≡ least_two levels }
-    ensures some { (levels : List ℕ) → IsClean levels → (i : ℕ) × (resolved_of levels ≡ Some i) }
+    ensures least { (levels : List ℕ) → IsResolved levels → resolved_of levels ≡ least_two levels }
+    ensures some { (levels : List ℕ) → IsResolved levels → (i : ℕ) × (resolved_of levels ≡ Some i) }
 {}
 
-/// A clean agreement is fixed.
-pub fn clean_is_fixed()
-    ensures { (m : ℕ) (phases : ℕ → Phase) → IsClean (phase_levels m phases) → IsFixed m phases }
+/// A resolved agreement is fixed.
+pub fn resolved_is_fixed()
+    ensures { (m : ℕ) (phases : ℕ → Phase) → IsResolved (phase_levels m phases) → IsFixed m phases }
 {}
 
 /// A fixed agreement stays fixed over any change, and the same simulators are at level 2.
@@ -54,21 +54,21 @@ pub fn stays_fixed_on()
 {}
 
 /// Agreement: what an agreement resolves to at one moment, it resolves to at every moment at which
-/// it is clean.
+/// it is resolved.
 pub fn agrees()
     // At any two moments of any list of changes.
     ensures moments { (m : ℕ) (phases : ℕ → Phase) (changes : List Change) (a b i k : ℕ) →
         AreLegal m phases changes → resolved_of (phase_levels m (after_changes m phases (take a changes))) ≡ Some i →
         resolved_of (phase_levels m (after_changes m phases (take b changes))) ≡ Some k →
         i ≡ k }
-    // Once it has resolved, each later clean moment gives the same.
+    // Once it has resolved, it resolves to the same simulator whenever it is resolved later.
     ensures again { (m : ℕ) (phases : ℕ → Phase) (changes : List Change) (i : ℕ) →
         AreLegal m phases changes → resolved_of (phase_levels m phases) ≡ Some i →
-        IsClean (phase_levels m (after_changes m phases changes)) →
+        IsResolved (phase_levels m (after_changes m phases changes)) →
         resolved_of (phase_levels m (after_changes m phases changes)) ≡ Some i }
     // As soon as it is fixed it is settled: the least simulator at level 2 is the one.
     ensures fixed { (m : ℕ) (phases : ℕ → Phase) (changes : List Change) →
-        AreLegal m phases changes → IsFixed m phases → IsClean (phase_levels m (after_changes m phases changes)) →
+        AreLegal m phases changes → IsFixed m phases → IsResolved (phase_levels m (after_changes m phases changes)) →
         resolved_of (phase_levels m (after_changes m phases changes)) ≡ least_two (phase_levels m phases) }
 {}
 
@@ -81,7 +81,7 @@ pub fn same_twos()
 {}
 
 /// If a simulator has seen a 2 or has left, some simulator is at level 2. So an agreement that one has left, and in
-/// which no simulator is at level 1, is clean: only a simulator that stopped inside can hold it.
+/// which no simulator is at level 1, is resolved: only a simulator that stopped inside can hold it.
 pub fn has_two_beside()
     ensures begins { (m : ℕ) → HasTwoBeside m before_all }
     ensures stays { (m : ℕ) (before : ℕ → Phase) (change : Change) (after : ℕ → Phase) →
@@ -90,9 +90,9 @@ pub fn has_two_beside()
     ensures stays_on { (m : ℕ) (phases : ℕ → Phase) (changes : List Change) →
         AreLegal m phases changes → HasTwoBeside m phases →
         HasTwoBeside m (after_changes m phases changes) }
-    ensures clean { (m : ℕ) (phases : ℕ → Phase) (i level : ℕ) →
+    ensures resolved { (m : ℕ) (phases : ℕ → Phase) (i level : ℕ) →
         HasTwoBeside m phases → i < m → phases i ≡ Left level → ((k : ℕ) → k < m → phase_level (phases k) ≢ 1) →
-        IsClean (phase_levels m phases) }
+        IsResolved (phase_levels m phases) }
 {}
 
 /// Each change of a legal list is a step, and phases that are the same for each simulator are as

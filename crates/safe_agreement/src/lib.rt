@@ -7,12 +7,12 @@
 #![tactic(auto)]
 
 ghost use Rattle.std.specs.Prelude.{◌≡◌, ◌==◌, IfNone, IfSome, position};
-ghost use Rattle.safe_agreement.specs.Levels.{IsClean, IsResolvedTo, leave_of, resolved_of};
+ghost use Rattle.safe_agreement.specs.Levels.{IsResolved, IsResolvedTo, leave_of, resolved_of};
 
 pub mod laws;
 mod packed;
 
-pub use packed::{has_level, is_clean, least_at, resolved_in};
+pub use packed::{has_level, is_resolved, least_at, resolved_in};
 
 /// The level to which a simulator goes when it leaves an agreement, by the levels that it saw when
 /// it looked, one for each simulator, each 0 to 2: 0 if some level was 2, and else 2 (the end of a
@@ -26,13 +26,13 @@ pub fn leave_level(levels: &[u8]) -> u8
 /// The simulator whose proposal an agreement has chosen, by the levels of all simulators: the
 /// least that is at level 2, if none is at level 1. `None` if one is at level 1 or none is
 /// at level 2: then there is nothing to agree on yet (the safe agreement of Borowsky et al. 2001).
-#[tactic(auto, using(crate::proofs::Clean::found_in, crate::proofs::Clean::none_in))]
+#[tactic(auto, using(crate::proofs::Resolving::found_in, crate::proofs::Resolving::none_in))]
 pub fn resolved(levels: &[u8]) -> Option<usize>
     ensures exact { result ≡ resolved_of levels.now }
-    // It is the least simulator at level 2 of a clean agreement.
+    // It is the least simulator at level 2, and none is at level 1.
     ensures found { IfSome result (λ simulator. IsResolvedTo levels.now simulator) }
-    // There is one for each clean agreement.
-    ensures none { IfNone result (IsClean levels.now → ⊥) }
+    // There is one if some level is 2, and none is 1.
+    ensures none { IfNone result (IsResolved levels.now → ⊥) }
 {
     if levels.contains(&1) {
         return None;

@@ -2,7 +2,7 @@
 ghost use Rattle.std.specs.Prelude.{◌≡◌, ℕ, ◌*◌, ◌%◌, ◌==◌, ◌<◌, ◌≤◌, IfSome, ◌↔◌, position};
 ghost use Rattle.std.specs.Int.{bit_at};
 ghost use Rattle.level_cells.specs.Fields.{level_of, levels_of};
-ghost use Rattle.safe_agreement.specs.Levels.{has_level, is_clean, resolved_of};
+ghost use Rattle.safe_agreement.specs.Levels.{has_level, is_resolved, resolved_of};
 
 use level_cells::MAX_LEVELS;
 
@@ -56,11 +56,11 @@ pub fn has_level(word: u64, m: usize, level: u8) -> bool
     all_at(word, m, level) != 0
 }
 
-/// Whether the agreement of the first `m` simulators is clean: some level is 2, and none is 1. `m`
+/// Whether the agreement of the first `m` simulators is resolved: some level is 2, and none is 1. `m`
 /// is at most [`MAX_LEVELS`].
-pub fn is_clean(word: u64, m: usize) -> bool
+pub fn is_resolved(word: u64, m: usize) -> bool
     requires { m ≤ MAX_LEVELS }
-    ensures { result ≡ is_clean (levels_of word m) }
+    ensures { result ≡ is_resolved (levels_of word m) }
 {
     has_level(word, m, 2) && !has_level(word, m, 1)
 }

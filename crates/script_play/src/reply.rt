@@ -37,7 +37,7 @@ pub fn write_steps(
     ensures { OnOk result (output.new ≡ output.old ++ reply_text name.now sim (Steps taken last)) }
 {
     write_step_of(output, name, sim)?;
-    output.put_number(u64::from(taken))?;
+    output.put_spaced_number(u64::from(taken))?;
     match last {
         StepReply::Stepped => output.put(b" stepped\n"), // of a length that is known
         _ => output.put(step_end(last)),
@@ -53,7 +53,7 @@ fn write_step_of(output: &mut Text, name: &[u8], sim: u8) -> Result<(), AllocErr
         return output.put_two(name, &[b' ', b's', b't', b'e', b'p', b' ', b'0' + sim]);
     }
     output.put_two(name, b" step")?;
-    output.put_number(u64::from(sim))
+    output.put_spaced_number(u64::from(sim))
 }
 
 /// The end of the line on steps.
@@ -73,7 +73,7 @@ fn write_crash(output: &mut Text, name: &[u8], sim: u8, reply: CrashReply) -> Re
     ensures { OnOk result (output.new ≡ output.old ++ (name.now ++ (codes " crash " ++ (decimal sim ++ (codes " " ++ (crash_word reply ++ codes "\n")))))) }
 {
     output.put_two(name, b" crash")?;
-    output.put_number(u64::from(sim))?;
+    output.put_spaced_number(u64::from(sim))?;
     output.put(crash_end(reply))
 }
 
@@ -92,7 +92,7 @@ fn write_refusal(output: &mut Text, name: &[u8], refusal: Refusal) -> Result<(),
     ensures { OnOk result (output.new ≡ output.old ++ (name.now ++ (codes " refused " ++ (decimal (refusal_code refusal) ++ codes "\n")))) }
 {
     output.put_two(name, b" refused")?;
-    output.put_number(u64::from(refusal.code()))?;
+    output.put_spaced_number(u64::from(refusal.code()))?;
     output.put(b"\n")
 }
 

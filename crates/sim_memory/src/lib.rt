@@ -10,7 +10,7 @@
 //! Distributed Computing 14(3), 2001.
 #![tactic(auto)]
 
-ghost use Rattle.std.specs.Prelude.{◌≡◌, ◌+◌, ◌%◌, ◌^◌, ◌<◌, ◌≤◌, ◌==◌, length, min};
+ghost use Rattle.std.specs.Prelude.{◌≡◌, ◌+◌, ◌%◌, ◌^◌, ◌<◌, ◌≤◌, length, min};
 ghost use Rattle.room_spec.specs.Sizes.{memory_words};
 ghost use Rattle.room_spec.specs.Shapes.{sizes_of};
 ghost use Rattle.sim_memory.specs.Steps.{IsHolder, holder_of, merged_of, place_of, step_in, word_of};
@@ -95,15 +95,6 @@ pub fn last_write(shape: &Shape, words: &[u64], p: usize) -> (usize, usize)
         }
     }
     (holder, greatest)
-}
-
-/// Whether the memory words show no write of process `p`.
-pub fn shows_none(shape: &Shape, words: &[u64], p: usize) -> bool
-    requires words { memory_words (sizes_of shape.now) ≤ length words.now }
-    requires process { p < shape.now.n }
-    ensures { result ≡ (merged_of shape.now.m (step_in (sizes_of shape.now) words.now) p == 0) }
-{
-    merged(shape, words, p) == 0
 }
 
 /// The step number in the lowest field of a word.

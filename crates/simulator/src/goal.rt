@@ -3,7 +3,7 @@ ghost use Rattle.std.specs.Prelude.{[], ◌≡◌, ◌+◌, ◌<◌, ◌≤◌, 
 ghost use Rattle.std.specs.List.{filter, range_with_len};
 ghost use Rattle.std.specs.Option.{option_map};
 ghost use Rattle.room_spec.specs.Rooms.{processes};
-ghost use Rattle.simulator.specs.Minds.{first_goal, first_goals, first_write, has_input, is_unfinished, next_process, opening_goals, opening_inputs, or_else, round_of, unfinished_in};
+ghost use Rattle.simulator.specs.Minds.{first_goal, first_goals, first_write, goal_at, has_input, is_unfinished, next_process, opening_goals, opening_inputs, or_else, round_of, unfinished_in};
 ghost use Rattle.simulator.specs.declared.goal.Goal.TheVariants as variants;
 
 use arrayvec::ArrayVec;
@@ -146,6 +146,17 @@ fn add_inputs(inputs: &mut ArrayVec<u32, MAX_PROCESSES>, spec: &Spec)
 {
     for process in 0..spec.n() {
         inputs.push(spec.input(process));
+    }
+}
+
+/// What is left to do for a process; nothing, for one that the room hasn't.
+#[inline(always)]
+pub(crate) fn goal_in(goals: &[Goal], process: usize) -> Goal
+    ensures { result ≡ goal_at goals.now process }
+{
+    match goals.get(process) {
+        Some(goal) => *goal,
+        None => Goal::Done,
     }
 }
 

@@ -1,8 +1,9 @@
 //! What a simulator knows, without how much it has done.
 ghost use Rattle.std.specs.Prelude.{◌≡◌};
 ghost use Rattle.simulator.specs.Knowing.{knowledge_of, mind_of};
+ghost use Rattle.simulator.specs.Minds.{goal_at};
 
-use crate::goal::Goal;
+use crate::goal::{Goal, goal_in};
 use crate::line::Line;
 use crate::mind::Mind;
 use crate::snapshot::Snapshot;
@@ -25,6 +26,15 @@ pub struct Knowledge {
     entries: View,
     inputs: ArrayVec<u32, MAX_PROCESSES>,
     decision: Option<u32>,
+}
+
+impl Knowledge {
+    /// What is left to do for a process; nothing, for one that the room hasn't.
+    pub fn goal(&self, process: usize) -> Goal
+        ensures { result ≡ goal_at self.now.goals.items process }
+    {
+        goal_in(self.goals.as_slice(), process)
+    }
 }
 
 impl Mind {

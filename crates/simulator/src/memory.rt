@@ -42,21 +42,21 @@ pub(crate) struct Room<'a, C> {
 
 /// A memory that is not looked into: this is its answer to each operation.
 #[derive(Drop)]
-pub(crate) struct Told {
+pub(crate) struct OneAnswer {
     pub(crate) answer: u64,
 }
 
-impl Memory<()> for Told {
+impl Memory<()> for OneAnswer {
     ghost use Rattle.std.specs.Prelude.{◌≡◌, ⊤};
 
-    ghost serves = { λ told context spec mind. ⊤ };
+    ghost serves = { λ memory context spec mind. ⊤ };
 
-    ghost does = { λ told next answer after. answer ≡ told.answer };
+    ghost does = { λ memory next answer after. answer ≡ memory.answer };
 
     #[inline(always)]
     fn operate(&mut self, _context: &(), _next: Move) -> u64 {
         self.answer
     }
 
-    ghost goes_on = { λ told context spec mind answer next served is_mind operation done. tt };
+    ghost goes_on = { λ memory context spec mind answer next served is_mind operation done. tt };
 }

@@ -8,7 +8,7 @@ ghost use Rattle.simulator.specs.Ranges.{IsMind};
 ghost use Rattle.simulator.specs.Sweeps.{is_resting, works_on};
 
 use crate::goal::{
-    Goal, more_unfinished, next_process, opening_goals, opening_inputs, unfinished_in,
+    Goal, goal_in, more_unfinished, next_process, opening_goals, opening_inputs, unfinished_in,
 };
 use crate::line::Line;
 use crate::operation::Move;
@@ -154,10 +154,7 @@ impl Mind {
     pub fn goal(&self, process: usize) -> Goal
         ensures { result ≡ goal_at self.now.goals process }
     {
-        match self.goals.as_slice().get(process) {
-            Some(goal) => *goal,
-            None => Goal::Done,
-        }
+        goal_in(self.goals.as_slice(), process)
     }
 
     /// The input of a process that was agreed on, as far as it knows. `None` before that, for a process that the room hasn't, and in

@@ -11,7 +11,7 @@ ghost use Rattle.simulator.specs.Turns.{begun, counted};
 
 use crate::goal::Goal;
 use crate::line::Line;
-use crate::memory::{Memory, Room, Told};
+use crate::memory::{Memory, OneAnswer, Room};
 use crate::mind::Mind;
 use crate::next::first_move_at;
 use crate::rows::Run;
@@ -110,7 +110,7 @@ impl Mind {
     {
         let line = self.current_line();
         let room = Room { spec, context: &() };
-        let taken = self.take_step(&room, line, &mut Told { answer });
+        let taken = self.take_step(&room, line, &mut OneAnswer { answer });
         self.stand_at(taken.line);
         taken.turn
     }

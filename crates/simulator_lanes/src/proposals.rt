@@ -151,7 +151,7 @@ fn input_of(
     ensures { IfOk result (λ words. words ≡ input_of panel.now agreement simulator) }
 {
     let mut words = Text::new(alloc);
-    words.put_number(agreement.proposed_input(simulator, panel.marks()))?;
+    words.put_spaced_number(agreement.proposed_input(simulator, panel.marks()))?;
     Ok(words)
 }
 

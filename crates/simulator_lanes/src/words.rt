@@ -121,7 +121,7 @@ fn write_input(output: &mut Text, step: &Step) -> Result<(), AllocError>
 {
     if step.proposes_input() {
         output.put(b":")?;
-        output.put_number(step.stored)
+        output.put_spaced_number(step.stored)
     } else {
         Ok(())
     }

@@ -30,7 +30,7 @@ pub(crate) fn write_number(output: &mut Text, before: &[u8], number: u64) -> Res
     ensures { OnOk result (output.new ≡ output.old ++ behind before.now number) }
 {
     output.put(before)?;
-    output.put_number(number)
+    output.put_spaced_number(number)
 }
 
 /// Appends words, a number and more words to the text.

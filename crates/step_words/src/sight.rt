@@ -49,7 +49,7 @@ fn write_loaded(output: &mut Text, spec: &Spec, step: &AtomicStep) -> Result<(),
             write_row(output, spec, word, step.word)
         }
         Place::Levels { .. } => write_levels(output, spec, step.line, step.word),
-        Place::Value { .. } | Place::Out { .. } => output.put_number(step.word),
+        Place::Value { .. } | Place::Out { .. } => output.put_spaced_number(step.word),
     }
 }
 
@@ -129,7 +129,7 @@ fn write_raised(output: &mut Text, number: u64) -> Result<(), AllocError>
     requires { number < 2 ^ 32 }
     ensures { OnOk result (output.new ≡ output.old ++ raised_text number) }
 {
-    output.put_number(number)?;
+    output.put_spaced_number(number)?;
     write_number(output, b" to", number + 1)
 }
 
@@ -149,7 +149,7 @@ fn write_withdrawn(output: &mut Text, level: u64) -> Result<(), AllocError>
     ensures { OnOk result (output.new ≡ output.old ++ withdrawn_text level) }
 {
     let lower = level.saturating_sub(1);
-    output.put_number(level)?;
+    output.put_spaced_number(level)?;
     write_between(output, b" to", lower, b": withdrawn")
 }
 
@@ -158,7 +158,7 @@ fn write_levels(output: &mut Text, spec: &Spec, line: Line, word: u64) -> Result
     ensures { OnOk result (output.new ≡ output.old ++ levels_text line (levels_of word spec.now.simulators)) }
 {
     output.put(b" levels")?;
-    output.put_numbers(levels(word, spec.m()).as_slice())?;
+    output.put_spaced_numbers(levels(word, spec.m()).as_slice())?;
     match line {
         Line::Look => write_standing(output, has_level(word, spec.m(), 2)),
         _ => write_chosen(output, resolved_in(word, spec.m())),
@@ -232,5 +232,5 @@ fn write_entry(output: &mut Text, number: usize) -> Result<(), AllocError>
     if number == 0 {
         return output.put(b" .");
     }
-    output.put_number(number as u64)
+    output.put_spaced_number(number as u64)
 }

@@ -13,7 +13,7 @@ use Rattle.script_play.specs.declared.following.Asked.{Asked}
 use Rattle.script_play.specs.declared.following.Order.{Order}
 use Rattle.script_play.specs.declared.following.Order.TheVariants as orders
 use Rattle.script_play.proofs.CallerLemmas.{followed_as}
-use Rattle.view_grade.specs.Grades.{Graded, IsGraded, IsGradedBy, grade_text, graded_ending, is_move, is_move_for, is_reached, nothing_graded, one_more, reported_in}
+use Rattle.view_grade.specs.Grades.{Graded, IsGraded, IsGradedBy, grade_shown, graded_ending, is_move, is_move_for, is_reached, nothing_graded, one_more, reported_in}
 use Rattle.view_grade.specs.Judging.{ReportedParts}
 use Rattle.view_grade.specs.declared.goal.Claim.{Claim}
 
@@ -34,10 +34,10 @@ command_graded asked first ready now rooms left command reply is last moves last
 )
 
 -- all of a script
-pub script_graded : {F : Type 0} (view : F → Graded) (claims : List Claim) (most : Option ℕ) (script : List ℕ) (first : F) (rooms : Entries) (last : F) (ending now : Result Outcome AllocError) (output : List ℕ) → view first ≡ nothing_graded
-    → IsPlay (λ old before done left new. IsGradedBy (view old) before done left (view new)) All script first rooms last ending → output ≡ grade_text claims most (view last).last (view last).moves
-    → now ≡ graded_ending ending (is_reached claims most (view last).last (view last).moves) → IsGraded claims most script now output
-script_graded view claims most script first rooms last ending now output none is output_is ending_is = record {
+pub script_graded : {F : Type 0} (view : F → Graded) (json : Bool) (claims : List Claim) (most : Option ℕ) (script : List ℕ) (first : F) (rooms : Entries) (last : F) (ending now : Result Outcome AllocError) (output : List ℕ) → view first ≡ nothing_graded
+    → IsPlay (λ old before done left new. IsGradedBy (view old) before done left (view new)) All script first rooms last ending → output ≡ grade_shown json claims most (view last)
+    → now ≡ graded_ending ending (is_reached claims most (view last).last (view last).moves) → IsGraded json claims most script now output
+script_graded view json claims most script first rooms last ending now output none is output_is ending_is = record {
   entries = is.entries;
   asked = is.asked;
   all = is.all;

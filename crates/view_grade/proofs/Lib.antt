@@ -2,3 +2,4 @@ mod Claims
 mod Keeping
 mod Texts
 mod Watching
+mod Floats

@@ -26,7 +26,7 @@ use Rattle.script_play.specs.Play.{Done, Replied}
 use Rattle.script_play.specs.Script.{text_after}
 use Rattle.script_play.specs.declared.following.Asked.{Asked}
 use Rattle.view_grade.specs.Grades.{graded_ending, is_move_for, one_more, reported_in}
-use Rattle.view_grade.specs.Keeping.{Found, IsFoundUnless, IsJudged, IsJudgedIf, IsKeptBy, IsKeptGrade, IsKeptTo, Kept, found_at, is_kept_reached, kept_text, line_at, line_from, next_number, nothing_kept}
+use Rattle.view_grade.specs.Keeping.{Found, IsFoundUnless, IsJudged, IsJudgedIf, IsKeptBy, IsKeptGrade, IsKeptTo, Kept, found_at, is_kept_reached, kept_shown, line_at, line_from, next_number, nothing_kept}
 use Rattle.view_grade.specs.declared.goal.Claim.{Claim}
 use Rattle.view_grade.proofs.Keeping.{command_graded}
 
@@ -87,11 +87,11 @@ kept_along lines_of script_of view lines script rooms first (done ∷ all) after
   kept_along lines_of script_of view lines script is.0 is.1 all after last (is.3.0 ∙ same_lines) (is.3.1 ∙ same_script) is.4,
 )
 
-pub script_kept : {F : Type 0} (lines_of : F → List Tree) (script_of : F → List ℕ) (view : F → Kept) (claims : List Claim) (most : Option ℕ) (lines : List Tree) (script : List ℕ) (first : F) (rooms : Entries) (last : F) (ending now : Result Outcome AllocError) (output : List ℕ)
+pub script_kept : {F : Type 0} (lines_of : F → List Tree) (script_of : F → List ℕ) (view : F → Kept) (json : Bool) (claims : List Claim) (most : Option ℕ) (lines : List Tree) (script : List ℕ) (first : F) (rooms : Entries) (last : F) (ending now : Result Outcome AllocError) (output : List ℕ)
     → lines_of first ≡ lines → script_of first ≡ script → view first ≡ nothing_kept
     → IsPlay (λ old before done left new. (lines_of new ≡ lines_of old) × (script_of new ≡ script_of old) × IsKeptBy (lines_of old) (script_of old) (view old) before done left (view new)) All script first rooms last ending
-    → output ≡ kept_text claims most (view last).graded (view last).watched.found → now ≡ graded_ending ending (is_kept_reached claims most (view last).graded (view last).watched.found) → IsKeptGrade claims most lines script now output
-script_kept lines_of script_of view claims most lines script first rooms last ending now output same_lines same_script none is output_is ending_is = record {
+    → output ≡ kept_shown json claims most (view last).graded (view last).watched.found → now ≡ graded_ending ending (is_kept_reached claims most (view last).graded (view last).watched.found) → IsKeptGrade json claims most lines script now output
+script_kept lines_of script_of view json claims most lines script first rooms last ending now output same_lines same_script none is output_is ending_is = record {
   entries = is.entries;
   asked = is.asked;
   all = is.all;

@@ -1,6 +1,10 @@
 -- What is said of a script and a goal.
-use Rattle.std.specs.Prelude.{◌≡◌, ℕ, ◌+◌, ◌==◌, Bool, true, false, ◌&&◌, List, [], ◌∷◌, ◌++◌, length, Option, Some, None, Result, Ok, Err, if◌then◌else◌, codes, decimal, min, nat_le}
+use Rattle.std.specs.Prelude.{◌≡◌, ℕ, ◌+◌, ◌==◌, Bool, true, false, ◌&&◌, List, [], ◌∷◌, ◌++◌, length, map, Option, Some, None, Result, Ok, Err, if◌then◌else◌, codes, decimal, min, nat_le}
 use Rattle.std.specs.declared.alloc.AllocError.{AllocError}
+use Rattle.serde_json.specs.Data.{Data, array, boolean, member, no_members, null, object}
+use Rattle.serde_json.specs.View.{items_of}
+use Rattle.json_lines.specs.Lines.{json_line}
+use Rattle.json_lines.specs.Values.{entry_data, number_data, text_data}
 use Rattle.std.specs.List.{flat_map, list_any}
 use Rattle.ws_history.specs.declared.states.ProcessState.{ProcessState}
 use Rattle.ws_history.specs.declared.states.ProcessState.TheVariants as states
@@ -170,6 +174,27 @@ end_line reached = if reached then codes "reached\n" else codes "not reached\n"
 abbrev pub grade_text : List Claim → Option ℕ → Option ReportedParts → ℕ → List ℕ
 grade_text claims most last moves = claim_lines last claims ++ (few_line most moves ++ end_line (is_reached claims most last moves))
 
+-- ---- as JSON
+
+abbrev pub claim_data : ReportedParts → Claim → Data
+claim_data reported claim =
+    object (member (codes "claim") (text_data (claim_text claim)) (member (codes "holds") (boolean (holds reported claim)) (member (codes "shows") (text_data (shown_text reported claim.fact)) no_members)))
+
+-- whether each claim holds, and what the report shows of it; there may be no report
+abbrev pub claims_data : Option ReportedParts → List Claim → Data
+claims_data None claims = null
+claims_data (Some reported) claims = array (items_of (map (claim_data reported) claims))
+
+abbrev pub grade_data : List Claim → Option ℕ → Graded → Data
+grade_data claims most graded =
+    object (member (codes "claims") (claims_data graded.last claims) (member (codes "commands") (number_data graded.moves) (member (codes "most") (entry_data most)
+    (member (codes "reached") (boolean (is_reached claims most graded.last graded.moves)) no_members))))
+
+-- as text or as JSON
+abbrev pub grade_shown : Bool → List Claim → Option ℕ → Graded → List ℕ
+grade_shown false claims most graded = grade_text claims most graded.last graded.moves
+grade_shown true claims most graded = json_line (grade_data claims most graded)
+
 -- ---- a whole script
 
 -- an allocation that failed for a command ends the script so
@@ -179,7 +204,7 @@ graded_ending (Err failed) reached = Err failed
 
 -- What is said of a script: the replies to its commands are those of `bgsim play`, and the last report among them is judged, with what the simulators
 -- of its room had decided and which inputs its processes had then.
-pub record IsGraded (claims : List Claim) (most : Option ℕ) (input : List ℕ) (ending : Result Outcome AllocError) (output : List ℕ) : Type 0 where
+pub record IsGraded (json : Bool) (claims : List Claim) (most : Option ℕ) (input : List ℕ) (ending : Result Outcome AllocError) (output : List ℕ) : Type 0 where
   pub entries : List Asked
   pub asked : script_says input ≡ Ok entries
   pub all : List Done
@@ -188,7 +213,7 @@ pub record IsGraded (claims : List Claim) (most : Option ℕ) (input : List ℕ)
   pub rooms : Entries
   pub graded : Graded
   pub followed : AreFollowed IsGradedBy [] nothing_graded all rooms graded
-  pub output_is : output ≡ grade_text claims most graded.last graded.moves
+  pub output_is : output ≡ grade_shown json claims most graded
   pub ending_is : ending ≡ graded_ending (ending_of all) (is_reached claims most graded.last graded.moves)
 
 -- ---- a goal that is not valid

@@ -1,7 +1,10 @@
 -- Whether the histories of a script's rooms keep a task of one's own, command by command.
-use Rattle.std.specs.Prelude.{◌≡◌, ℕ, zero, suc, ◌+◌, Bool, ◌&&◌, List, [], ◌∷◌, ◌++◌, length, map, min, is_none, Option, Some, None, Result, Ok, codes, slice_index_or}
+use Rattle.std.specs.Prelude.{◌≡◌, ℕ, zero, suc, ◌+◌, Bool, true, false, ◌&&◌, List, [], ◌∷◌, ◌++◌, length, map, min, is_none, Option, Some, None, Result, Ok, codes, slice_index_or}
 use Rattle.std.specs.declared.alloc.AllocError.{AllocError}
 use Rattle.std.specs.List.{concat, range_with_len}
+use Rattle.serde_json.specs.Data.{Data, boolean, member, no_members, null, object}
+use Rattle.json_lines.specs.Lines.{json_line}
+use Rattle.json_lines.specs.Values.{entry_data, number_data, row_data, text_data}
 use Rattle.protocol_lang.specs.Trees.{Tree}
 use Rattle.room_spec.specs.Rooms.{RoomSpec}
 use Rattle.room_spec.specs.Texts.{first_line, later_lines}
@@ -21,7 +24,7 @@ use Rattle.room_files.specs.declared.kinds.Kinds.TheVariants.{All}
 use Rattle.script_play.specs.Play.{AreDone, AreReplies, Done, Faulty, Replied, Unread, commands_of, ending_of, replies_in}
 use Rattle.script_play.specs.Following.{AreFollowed}
 use Rattle.script_play.specs.Script.{Entry as Asked, block_after, script_says, text_after}
-use Rattle.view_grade.specs.Grades.{Graded, IsGradedBy, and_number, claim_lines, end_line, few_line, graded_ending, is_reached, nothing_graded, one_more}
+use Rattle.view_grade.specs.Grades.{Graded, IsGradedBy, and_number, claim_lines, claims_data, end_line, few_line, graded_ending, is_reached, nothing_graded, one_more}
 use Rattle.view_grade.specs.declared.goal.Claim.{Claim}
 
 -- ---- a room
@@ -147,11 +150,33 @@ is_kept_reached claims most graded found = is_reached claims most graded.last gr
 abbrev pub kept_text : List Claim → Option ℕ → Graded → Option Found → List ℕ
 kept_text claims most graded found = claim_lines graded.last claims ++ (few_line most graded.moves ++ (kept_line found ++ end_line (is_kept_reached claims most graded found)))
 
+-- ---- as JSON
+
+-- the command after which the task isn't kept, its room, and what was decided then
+abbrev pub found_data : Found → Data
+found_data found =
+    object (member (codes "decisions") (row_data found.moment.decisions.items) (member (codes "line") (number_data found.line) (member (codes "process") (number_data found.moment.process)
+    (member (codes "room") (text_data found.room) (member (codes "value") (number_data found.moment.value) no_members)))))
+
+abbrev pub broken_data : Option Found → Data
+broken_data None = null
+broken_data (Some found) = found_data found
+
+abbrev pub kept_data : List Claim → Option ℕ → Graded → Option Found → Data
+kept_data claims most graded found =
+    object (member (codes "broken") (broken_data found) (member (codes "claims") (claims_data graded.last claims) (member (codes "commands") (number_data graded.moves) (member (codes "kept") (boolean (is_none found))
+    (member (codes "most") (entry_data most) (member (codes "reached") (boolean (is_kept_reached claims most graded found)) no_members))))))
+
+-- as text or as JSON
+abbrev pub kept_shown : Bool → List Claim → Option ℕ → Graded → Option Found → List ℕ
+kept_shown false claims most graded found = kept_text claims most graded found
+kept_shown true claims most graded found = json_line (kept_data claims most graded found)
+
 -- ---- a whole script
 
 -- What is said of a script that is judged by a goal and by a task: the replies to its commands are those of `bgsim play`, the last report among them is judged by the goal, and the history of
 -- each room, after each command to it, by the task.
-pub record IsKeptGrade (claims : List Claim) (most : Option ℕ) (lines : List Tree) (input : List ℕ) (ending : Result Outcome AllocError) (output : List ℕ) : Type 0 where
+pub record IsKeptGrade (json : Bool) (claims : List Claim) (most : Option ℕ) (lines : List Tree) (input : List ℕ) (ending : Result Outcome AllocError) (output : List ℕ) : Type 0 where
   pub entries : List Asked
   pub asked : script_says input ≡ Ok entries
   pub all : List Done
@@ -160,5 +185,5 @@ pub record IsKeptGrade (claims : List Claim) (most : Option ℕ) (lines : List T
   pub rooms : Entries
   pub kept : Kept
   pub followed : AreFollowed (IsKeptBy lines input) [] nothing_kept all rooms kept
-  pub output_is : output ≡ kept_text claims most kept.graded kept.watched.found
+  pub output_is : output ≡ kept_shown json claims most kept.graded kept.watched.found
   pub ending_is : ending ≡ graded_ending (ending_of all) (is_kept_reached claims most kept.graded kept.watched.found)

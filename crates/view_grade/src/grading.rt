@@ -1,17 +1,17 @@
 //! From a script and a goal to what is said of them.
-ghost use Rattle.std.specs.Prelude.{◌≡◌, ◌≤◌, IsOk, IfErr, IfOk, OnOk, length};
+ghost use Rattle.std.specs.Prelude.{◌≡◌, ◌≤◌, ◌++◌, IsOk, IfErr, IfOk, OnOk, length};
 ghost use Rattle.io_text.specs.Reading.{most_bytes};
 ghost use Rattle.room_files.specs.Blocks.{IsFaultOr};
 ghost use Rattle.script_play.specs.Script.{script_says};
-ghost use Rattle.view_grade.specs.Grades.{IsGraded, are_few, grade_text, graded_ending, is_reached, is_satisfied};
-ghost use Rattle.view_grade.specs.Keeping.{IsKeptGrade, is_kept_reached, kept_text};
+ghost use Rattle.view_grade.specs.Grades.{IsGraded, grade_shown, grade_text, graded_ending};
+ghost use Rattle.view_grade.specs.Keeping.{IsKeptGrade, kept_shown, kept_text};
 
-use crate::goal::Goal;
+use crate::aim::Aim;
 use crate::grader::Grader;
-use crate::judging::satisfies;
+use crate::json::{write_grade_object, write_kept_object};
 use crate::keeper::{Broken, Keeper};
 use crate::kept_text::write_kept;
-use crate::reported::Reported;
+use crate::reaching::{is_kept_reached, is_reached};
 use crate::text::{write_claims, write_end, write_few};
 use decision_tasks::DecisionTask;
 use io_text::Text;
@@ -19,20 +19,15 @@ use room_files::{InputFault, Kinds, Outcome, outcome_if};
 use script_play::{PlayText, Played, play_script};
 use std::alloc::{AllocError, Global};
 
-/// Plays a script, and says of each claim of a goal whether the script's last report satisfies it, and whether the script has at most
-/// `most` commands `step` and `crash`, if a number is given. All is well if the goal is reached.
+/// Plays a script, and says of each claim of a goal whether the script's last report satisfies it, and whether the script has few enough
+/// commands `step` and `crash`, if there is a limit. All is well if the goal is reached.
 ///
 /// # Errors
 ///
 /// The script's first malformed line; or an allocation that failed for what is kept of it.
-pub fn grade(
-    alloc: Global,
-    goal: &Goal,
-    most: Option<u32>,
-    script: &[u8],
-) -> Result<PlayText, InputFault>
+pub fn grade(alloc: Global, aim: &Aim<'_>, script: &[u8]) -> Result<PlayText, InputFault>
     requires { length script.now ≤ most_bytes }
-    ensures text { IfOk result (λ graded. IsGraded goal.now most script.now graded.ending graded.output) }
+    ensures text { IfOk result (λ graded. IsGraded aim.now.json aim.now.goal.now aim.now.most script.now graded.ending graded.output) }
     // An allocation that fails hides no malformed line.
     ensures err { IfErr result (IsFaultOr (IsOk (script_says script.now)) (script_says script.now)) }
 {
@@ -41,9 +36,8 @@ pub fn grade(
         ending,
         ..
     } = play_script(alloc, Kinds::All, Grader::new(), script)?;
-    let Grader { last, moves } = follower;
-    let output = text_of(alloc, goal, most, &last, moves)?;
-    let ending = graded_ending(ending, is_reached(goal, most, &last, moves));
+    let output = grade_shown(alloc, aim, &follower)?;
+    let ending = graded_ending(ending, is_reached(aim, &follower));
     Ok(PlayText { output, ending })
 }
 
@@ -55,13 +49,12 @@ pub fn grade(
 /// The script's first malformed line; or an allocation that failed for what is kept of it.
 pub fn grade_kept(
     alloc: Global,
-    goal: &Goal,
-    most: Option<u32>,
+    aim: &Aim<'_>,
     task: &DecisionTask,
     script: &[u8],
 ) -> Result<PlayText, InputFault>
     requires { length script.now ≤ most_bytes }
-    ensures text { IfOk result (λ graded. IsKeptGrade goal.now most task.now script.now graded.ending graded.output) }
+    ensures text { IfOk result (λ graded. IsKeptGrade aim.now.json aim.now.goal.now aim.now.most task.now script.now graded.ending graded.output) }
     // An allocation that fails hides no malformed line.
     ensures err { IfErr result (IsFaultOr (IsOk (script_says script.now)) (script_says script.now)) }
 {
@@ -71,76 +64,62 @@ pub fn grade_kept(
         ..
     } = play_script(alloc, Kinds::All, Keeper::new(alloc, task, script), script)?;
     let Keeper { grader, broken, .. } = follower;
-    let output = kept_text(alloc, goal, most, &grader, &broken)?;
-    let ending = graded_ending(ending, is_kept_reached(goal, most, &grader, &broken));
+    let output = kept_shown(alloc, aim, &grader, &broken)?;
+    let ending = graded_ending(ending, is_kept_reached(aim, &grader, &broken));
     Ok(PlayText { output, ending })
 }
 
 /// What is said of a report and a goal, and of a task.
-fn kept_text(
+fn kept_shown(
     alloc: Global,
-    goal: &Goal,
-    most: Option<u32>,
+    aim: &Aim<'_>,
     grader: &Grader,
     broken: &Option<Broken>,
 ) -> Result<Text, AllocError>
-    ensures { IfOk result (λ text. text ≡ kept_text goal.now most (record { last = grader.now.last; moves = grader.now.moves }) broken.now) }
+    ensures { IfOk result (λ text. text ≡ kept_shown aim.now.json aim.now.goal.now aim.now.most (record { last = grader.now.last; moves = grader.now.moves }) broken.now) }
 {
     let mut output = Text::new(alloc);
-    write_claims(&mut output, &grader.last, goal.claims())?;
-    write_few(&mut output, most, grader.moves)?;
-    write_kept(&mut output, broken)?;
-    write_end(&mut output, is_kept_reached(goal, most, grader, broken))?;
+    if aim.json {
+        write_kept_object(alloc, &mut output, aim, grader, broken)?;
+    } else {
+        write_kept_text(&mut output, aim, grader, broken)?;
+    }
     Ok(output)
 }
 
-/// Whether the goal is reached, and the task is kept.
-fn is_kept_reached(goal: &Goal, most: Option<u32>, grader: &Grader, broken: &Option<Broken>) -> bool
-    ensures { result ≡ is_kept_reached goal.now most (record { last = grader.now.last; moves = grader.now.moves }) broken.now }
+fn write_kept_text(
+    output: &mut Text,
+    aim: &Aim<'_>,
+    grader: &Grader,
+    broken: &Option<Broken>,
+) -> Result<(), AllocError>
+    ensures { OnOk result (output.new ≡ output.old ++ kept_text aim.now.goal.now aim.now.most (record { last = grader.now.last; moves = grader.now.moves }) broken.now) }
 {
-    is_reached(goal, most, &grader.last, grader.moves) && broken.is_none()
+    write_claims(output, &grader.last, aim.goal.claims())?;
+    write_few(output, aim.most, grader.moves)?;
+    write_kept(output, broken)?;
+    write_end(output, is_kept_reached(aim, grader, broken))
 }
 
 /// What is said of a report and a goal.
-fn text_of(
-    alloc: Global,
-    goal: &Goal,
-    most: Option<u32>,
-    last: &Option<Reported>,
-    moves: u64,
-) -> Result<Text, AllocError>
-    ensures { IfOk result (λ text. text ≡ grade_text goal.now most last.now moves) }
+fn grade_shown(alloc: Global, aim: &Aim<'_>, grader: &Grader) -> Result<Text, AllocError>
+    ensures { IfOk result (λ text. text ≡ grade_shown aim.now.json aim.now.goal.now aim.now.most (record { last = grader.now.last; moves = grader.now.moves })) }
 {
     let mut output = Text::new(alloc);
-    write_claims(&mut output, last, goal.claims())?;
-    write_few(&mut output, most, moves)?;
-    write_end(&mut output, is_reached(goal, most, last, moves))?;
+    if aim.json {
+        write_grade_object(alloc, &mut output, aim, grader)?;
+    } else {
+        write_grade_text(&mut output, aim, grader)?;
+    }
     Ok(output)
 }
 
-/// Whether the report satisfies the goal, and there are not too many moves.
-fn is_reached(goal: &Goal, most: Option<u32>, last: &Option<Reported>, moves: u64) -> bool
-    ensures { result ≡ is_reached goal.now most last.now moves }
+fn write_grade_text(output: &mut Text, aim: &Aim<'_>, grader: &Grader) -> Result<(), AllocError>
+    ensures { OnOk result (output.new ≡ output.old ++ grade_text aim.now.goal.now aim.now.most grader.now.last grader.now.moves) }
 {
-    is_satisfied(goal, last) && are_few(most, moves)
-}
-
-fn is_satisfied(goal: &Goal, last: &Option<Reported>) -> bool
-    ensures { result ≡ is_satisfied last.now goal.now }
-{
-    match last {
-        Some(reported) => satisfies(reported, goal.claims()),
-        None => false,
-    }
-}
-
-fn are_few(most: Option<u32>, moves: u64) -> bool
-    ensures { result ≡ are_few most moves }
-{
-    match most {
-        Some(most) => moves <= u64::from(most),
-        None => true,
-    }
+    write_claims(output, &grader.last, aim.goal.claims())?;
+    write_few(output, aim.most, grader.moves)?;
+    write_end(output, is_reached(aim, grader))
 }
 
 /// The end of a script that is graded.

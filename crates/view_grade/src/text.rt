@@ -48,7 +48,7 @@ fn write_claim(output: &mut Text, reported: &Reported, claim: Claim) -> Result<(
 }
 
 /// Writes a claim as a goal says it.
-fn write_words(output: &mut Text, claim: Claim) -> Result<(), AllocError>
+pub(crate) fn write_words(output: &mut Text, claim: Claim) -> Result<(), AllocError>
     ensures { OnOk result (output.new ≡ output.old ++ claim_text claim) }
 {
     if claim.negated {
@@ -63,7 +63,7 @@ fn write_fact(output: &mut Text, fact: Fact) -> Result<(), AllocError>
     match fact {
         Fact::Decided { process, value } => {
             put_and(output, b"decided", u64::from(process))?;
-            output.put_number(u64::from(value))
+            output.put_spaced_number(u64::from(value))
         }
         Fact::Spent(process) => put_and(output, b"spent", u64::from(process)),
         Fact::Held(process) => put_and(output, b"held", u64::from(process)),
@@ -86,13 +86,17 @@ fn write_input(output: &mut Text, input: Option<u32>) -> Result<(), AllocError>
     ensures { OnOk result (output.new ≡ output.old ++ input_text input) }
 {
     match input {
-        Some(value) => output.put_number(u64::from(value)),
+        Some(value) => output.put_spaced_number(u64::from(value)),
         None => output.put(b" none"),
     }
 }
 
 /// Writes what a report shows that decides a fact.
-fn write_shown(output: &mut Text, reported: &Reported, fact: Fact) -> Result<(), AllocError>
+pub(crate) fn write_shown(
+    output: &mut Text,
+    reported: &Reported,
+    fact: Fact,
+) -> Result<(), AllocError>
     ensures { OnOk result (output.new ≡ output.old ++ shown_text reported.now fact) }
 {
     let report = &reported.report;
@@ -249,5 +253,5 @@ pub(crate) fn put_and(output: &mut Text, words: &[u8], number: u64) -> Result<()
     ensures { OnOk result (output.new ≡ output.old ++ and_number words.now number) }
 {
     output.put(words)?;
-    output.put_number(number)
+    output.put_spaced_number(number)
 }

@@ -41,7 +41,7 @@ fn write_number(
     ensures { OnOk result (output.new ≡ output.old ++ (before.now ++ ((32 ∷ decimal number) ++ after.now))) }
 {
     output.put(before)?;
-    output.put_number(number)?;
+    output.put_spaced_number(number)?;
     output.put(after)
 }
 
@@ -81,7 +81,7 @@ fn write_missed(output: &mut Text, count: u64, missed: u64, nodes: u64) -> Resul
     ensures { OnOk result (output.new ≡ output.old ++ missed_line count missed nodes) }
 {
     write_missed_words(output, count, missed)?;
-    output.put_number(nodes)?;
+    output.put_spaced_number(nodes)?;
     output.put(
         b" nodes, which may have others, no schedule was found; if the room has few turns, try more\n",
     )
@@ -92,7 +92,7 @@ fn write_missed_words(output: &mut Text, count: u64, missed: u64) -> Result<(), 
 {
     write_open_words(output, count)?;
     output.put(b" and some may be missing: for")?;
-    output.put_number(missed)?;
+    output.put_spaced_number(missed)?;
     output.put(b" of")
 }
 
@@ -181,5 +181,5 @@ fn write_decided(output: &mut Text, value: u32) -> Result<(), AllocError>
     ensures { OnOk result (output.new ≡ output.old ++ (codes " decided" ++ (32 ∷ decimal value))) }
 {
     output.put(b" decided")?;
-    output.put_number(u64::from(value))
+    output.put_spaced_number(u64::from(value))
 }

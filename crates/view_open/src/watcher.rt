@@ -30,6 +30,13 @@ pub(crate) struct Watcher {
     pub(crate) well: bool,
 }
 
+/// What `play` writes of a command, and the name of the command's room.
+#[derive(Clone, Copy)]
+struct Written<'a> {
+    name: &'a [u8],
+    words: &'a [u8],
+}
+
 impl Watcher {
     pub(crate) fn new(alloc: Global, plan: &OpenPlan) -> Watcher
         ensures plan { result.plan ≡ plan.now }
@@ -46,24 +53,23 @@ impl Watcher {
         }
     }
 
-    /// Follows a command to the room of this name, of which `play` writes these words. It did this, if it changed the room.
+    /// Follows a command, which did this, if it changed its room.
     fn follow<P: Progress>(
         &mut self,
-        name: &[u8],
-        words: &[u8],
+        written: &Written<'_>,
         what: Option<What>,
         rooms: &Service,
         progress: &mut P,
     ) -> Result<(), AllocError>
-        ensures { OnOk result (Does (λ so_far next. IsNoted so_far name.now words.now what (room_at rooms.now name.now) next) self.old self.new) }
+        ensures { OnOk result (Does (λ so_far next. IsNoted so_far written.now.name.now written.now.words.now what (room_at rooms.now written.now.name.now) next) self.old self.new) }
     {
         let Some(what) = what else {
-            return self.show_plainly(words);
+            return self.show_plainly(written.words);
         };
-        let Some(room) = rooms.room(name) else {
-            return self.show_plainly(words);
+        let Some(room) = rooms.room(written.name) else {
+            return self.show_plainly(written.words);
         };
-        self.search(name, words, what, room.spec(), progress)
+        self.search(written, what, room.spec(), progress)
     }
 
     /// Writes what `play` writes, and no more; in JSON its first line.
@@ -76,24 +82,23 @@ impl Watcher {
         self.output.put(words)
     }
 
-    /// Finds the outcomes that are open after this was done to the room of this name, and writes them.
+    /// Finds the outcomes that are open after a command did this to its room, and writes them.
     fn search<P: Progress>(
         &mut self,
-        name: &[u8],
-        words: &[u8],
+        written: &Written<'_>,
         what: What,
         spec: &Spec,
         progress: &mut P,
     ) -> Result<(), AllocError>
-        ensures { OnOk result (Does (λ so_far next. IsSearched so_far name.now words.now what spec.now next) self.old self.new) }
+        ensures { OnOk result (Does (λ so_far next. IsSearched so_far written.now.name.now written.now.words.now what spec.now next) self.old self.new) }
     {
-        let mut past = self.pasts.take(self.alloc, name);
+        let mut past = self.pasts.take(self.alloc, written.name);
         past.add(what)?;
         let found = self.find(&past, spec, progress)?;
-        self.show(words, spec, past.known.as_slice(), &found)?;
+        self.show(written.words, spec, past.known.as_slice(), &found)?;
         self.judge(&found);
         past.learn(known_in(found));
-        self.pasts.put(self.alloc, name, past)
+        self.pasts.put(self.alloc, written.name, past)
     }
 
     /// Finds the outcomes that are open in the room to which all this was done.
@@ -193,8 +198,11 @@ impl<P: Progress> Follows for Follower<'_, P> {
         write_reply(&mut words, asked.name, asked.order.sim(), &reply)?;
         let what = what_in(asked.order, &reply);
         let words = words.as_bytes();
-        self.watcher
-            .follow(asked.name, words, what, rooms, self.progress)
+        let written = Written {
+            name: asked.name,
+            words,
+        };
+        self.watcher.follow(&written, what, rooms, self.progress)
     }
 
     fn refuse(&mut self, line: u64, fault: SpecFault) -> Result<(), AllocError> {

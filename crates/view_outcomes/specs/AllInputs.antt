@@ -11,7 +11,7 @@ use Rattle.input_vectors.specs.Judged.{AreVectorTexts}
 use Rattle.input_vectors.specs.Vectors.{most_vectors, vector_count, vectors}
 use Rattle.run_blocks.specs.Blocks.{room_block}
 
--- The text says that each run of the room with these inputs keeps its task, and search many nodes stand for the states of all runs; or that one breaks it.
+-- The text says that each run of the room with these inputs keeps its task, and how many nodes stand for the states of all runs; or that one breaks it.
 pub record IsVectorJudged (search : Search) (spec : RoomSpec) (block : List ℕ) (inputs : List ℕ) (kept : Bool) (text : List ℕ) : Type 0 where
   pub judgement : Judgement
   pub judged : IsJudged (with_inputs spec inputs) search.nodes judgement
@@ -28,7 +28,7 @@ pub record IsVectorUnjudged (search : Search) (spec : RoomSpec) (inputs : List �
 abbrev pub IsVectorText : Search → RoomSpec → List ℕ → List ℕ → Bool → List ℕ → Type 0
 IsVectorText search spec block inputs kept text = IsVectorJudged search spec block inputs kept text ⊎ IsVectorUnjudged search spec inputs kept text
 
--- A text for each vector of these values, and a line that says with search many each run keeps the task. All is well if it is with each.
+-- A text for each vector of these values, and a line that says with how many each run keeps the task. All is well if it is with each.
 pub record IsVectorsText (search : Search) (values : List ℕ) (spec : RoomSpec) (block : List ℕ) (well : Bool) (text : List ℕ) : Type 0 where
   pub few : vector_count values (processes spec) ≤ most_vectors
   pub kept : ℕ

@@ -29,7 +29,7 @@ fn write_none(output: &mut Text, name: &[u8], number: u32, count: usize) -> Resu
     ensures { OnOk result (output.new ≡ output.old ++ none_line name.now number count) }
 {
     write_count(output, name, count)?;
-    output.put_number(u64::from(number))?;
+    output.put_spaced_number(u64::from(number))?;
     output.put(b"\n")
 }
 
@@ -37,6 +37,6 @@ fn write_count(output: &mut Text, name: &[u8], count: usize) -> Result<(), Alloc
     ensures { OnOk result (output.new ≡ output.old ++ count_words name.now count) }
 {
     output.put_two(name, b" has")?;
-    output.put_number(count as u64)?;
+    output.put_spaced_number(count as u64)?;
     output.put(b" outcomes, and none has the number")
 }

@@ -10,7 +10,7 @@ use room_files::{Answer, BlockList, Kinds, Setup, outcome_if, read_all_blocks};
 use run_search::Progress;
 use std::alloc::{AllocError, Global};
 
-/// Searches each room of a file, and writes the lines of the refused blocks and then what is asked for of each room; or this alone, as JSON or if it is one outcome. All is
+/// Searches each room of a file, and writes the lines of the refused blocks and then what is asked for of each room; or only this, as JSON or if it is one outcome. All is
 /// well if no block was refused, each room was searched to the end, and each run of each keeps its room's task, with each vector of inputs that is asked for; or, if one
 /// outcome is asked for, each room has it. Reports how many nodes of a room have been searched.
 ///

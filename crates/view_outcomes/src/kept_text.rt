@@ -34,7 +34,7 @@ fn write_decider(output: &mut Text, name: &[u8], process: usize) -> Result<(), A
     ensures { OnOk result (output.new ≡ output.old ++ decider_text name.now process) }
 {
     output.put_two(name, b" process")?;
-    output.put_number(process as u64)?;
+    output.put_spaced_number(process as u64)?;
     output.put(b" decided")
 }
 
@@ -42,7 +42,7 @@ fn write_decider(output: &mut Text, name: &[u8], process: usize) -> Result<(), A
 fn write_refused_value(output: &mut Text, value: u32) -> Result<(), AllocError>
     ensures { OnOk result (output.new ≡ output.old ++ refused_value_text value) }
 {
-    output.put_number(u64::from(value))?;
+    output.put_spaced_number(u64::from(value))?;
     output.put(b", which no line allows, in this run:\n")
 }
 

@@ -36,7 +36,7 @@ impl Asked<'_> {
         }
     }
 
-    /// Whether one outcome alone is asked for.
+    /// Whether only one outcome is asked for.
     fn is_alone(self) -> bool
         ensures { result ≡ is_alone self.entry }
     {
@@ -78,7 +78,7 @@ impl Form {
 /// How rooms are searched, and what is written of them.
 #[derive(Clone, Copy)]
 pub struct Search<'a> {
-    /// At most this number of processes stop; if it is not said, all but one. Outcomes alone depend on it.
+    /// At most this number of processes stop; if it is not said, all but one. Only outcomes depend on it.
     pub crashes: Option<u32>,
     /// How many nodes of a room are searched at most.
     pub nodes: u32,

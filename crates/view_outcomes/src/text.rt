@@ -17,7 +17,7 @@ pub fn write_head(output: &mut Text, name: &[u8], crashes: usize) -> Result<(), 
     ensures { OnOk result (output.new ≡ output.old ++ head_line name.now crashes) }
 {
     output.put_two(name, b" outcomes crashes")?;
-    output.put_number(crashes as u64)?;
+    output.put_spaced_number(crashes as u64)?;
     output.put(b"\n")
 }
 
@@ -26,7 +26,7 @@ fn write_unfinished_line(output: &mut Text, limit: u32, advice: &[u8]) -> Result
     ensures { OnOk result (output.new ≡ output.old ++ unfinished_line limit advice.now) }
 {
     output.put(b"more than")?;
-    output.put_number(u64::from(limit))?;
+    output.put_spaced_number(u64::from(limit))?;
     output.put(advice)
 }
 
@@ -99,7 +99,7 @@ fn write_end(output: &mut Text, name: &[u8], process: usize, ended: Ended) -> Re
     ensures { OnOk result (output.new ≡ output.old ++ end_line name.now process ended) }
 {
     output.put_two(name, b" process")?;
-    output.put_number(process as u64)?;
+    output.put_spaced_number(process as u64)?;
     write_end_words(output, ended)
 }
 
@@ -118,7 +118,7 @@ fn write_decided(output: &mut Text, value: u32) -> Result<(), AllocError>
     ensures { OnOk result (output.new ≡ output.old ++ (codes " decided" ++ ((32 ∷ decimal value) ++ codes "\n"))) }
 {
     output.put(b" decided")?;
-    output.put_number(u64::from(value))?;
+    output.put_spaced_number(u64::from(value))?;
     output.put(b"\n")
 }
 
@@ -163,7 +163,7 @@ fn write_number_line(
 {
     output.put_two(b"\n", name)?;
     output.put(words)?;
-    output.put_number(number)?;
+    output.put_spaced_number(number)?;
     output.put(things)
 }
 
@@ -212,7 +212,7 @@ fn write_spent_line(output: &mut Text, name: &[u8], process: usize) -> Result<()
     ensures { OnOk result (output.new ≡ output.old ++ spent_line name.now process) }
 {
     output.put_two(name, b" process")?;
-    output.put_number(process as u64)?;
+    output.put_spaced_number(process as u64)?;
     output.put(b" can be spent\n")
 }
 
@@ -266,7 +266,7 @@ fn write_complete(output: &mut Text, all: &AllOutcomes) -> Result<(), AllocError
     ensures { OnOk result (output.new ≡ output.old ++ complete_line all.now) }
 {
     write_outcome_count(output, all.listed.len())?;
-    output.put_number(all.nodes as u64)?;
+    output.put_spaced_number(all.nodes as u64)?;
     output.put(b" nodes searched\n")
 }
 
@@ -274,7 +274,7 @@ fn write_outcome_count(output: &mut Text, outcomes: usize) -> Result<(), AllocEr
     ensures { OnOk result (output.new ≡ output.old ++ (codes "these are all outcomes:" ++ ((32 ∷ decimal outcomes) ++ codes " of them,"))) }
 {
     output.put(b"these are all outcomes:")?;
-    output.put_number(outcomes as u64)?;
+    output.put_spaced_number(outcomes as u64)?;
     output.put(b" of them,")
 }
 
@@ -311,7 +311,7 @@ pub fn write_all_runs(output: &mut Text, nodes: usize) -> Result<(), AllocError>
     ensures { OnOk result (output.new ≡ output.old ++ all_runs_line nodes) }
 {
     output.put(b"these are all runs:")?;
-    output.put_number(nodes as u64)?;
+    output.put_spaced_number(nodes as u64)?;
     output.put(b" nodes searched\n")
 }
 

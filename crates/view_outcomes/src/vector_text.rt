@@ -52,7 +52,7 @@ fn write_kept_words(output: &mut Text, nodes: usize) -> Result<(), AllocError>
     ensures { OnOk result (output.new ≡ output.old ++ kept_words nodes) }
 {
     output.put(b" task holds in every run:")?;
-    output.put_number(nodes as u64)?;
+    output.put_spaced_number(nodes as u64)?;
     output.put(b" nodes searched\n")
 }
 

@@ -21,7 +21,7 @@ use view_open::{OpenPlan, open_outcomes};
 use view_trace::trace_json;
 use view_why::{explain, explain_kept};
 
-/// What a file is answered as: rooms alone are no transcript.
+/// What a file is answered as: a file with only rooms is no transcript.
 fn kind_of(file: &[u8]) -> FileKind
     ensures { result ≡ kind_of file.now }
 {

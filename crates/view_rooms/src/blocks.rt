@@ -11,7 +11,7 @@ use run_search::Progress;
 use std::alloc::{AllocError, Global};
 
 /// Searches all schedules of the simulators of each room of a file, and writes the lines of the refused blocks and then the outcomes of each room, each with a script for
-/// `bgsim play` that leads to it; or the outcomes alone, as JSON. All is well if no block was refused, each room was searched to the end, and for each node a schedule was
+/// `bgsim play` that leads to it; or only the outcomes, as JSON. All is well if no block was refused, each room was searched to the end, and for each node a schedule was
 /// found. Reports how many nodes of a room have been searched.
 ///
 /// # Errors

@@ -15,7 +15,7 @@ pub(crate) fn write_head(output: &mut Text, name: &[u8], crashes: u32) -> Result
     ensures { OnOk result (output.new ≡ output.old ++ head_line name.now crashes) }
 {
     output.put_two(name, b" outcomes rooms crashes")?;
-    output.put_number(u64::from(crashes))?;
+    output.put_spaced_number(u64::from(crashes))?;
     output.put(b"\n")
 }
 
@@ -78,7 +78,7 @@ fn write_number_line(
 {
     output.put_two(b"\n", name)?;
     output.put(words)?;
-    output.put_number(number)?;
+    output.put_spaced_number(number)?;
     output.put(things)
 }
 
@@ -98,7 +98,7 @@ fn write_reached(output: &mut Text, count: u64, nodes: u64) -> Result<(), AllocE
     ensures { OnOk result (output.new ≡ output.old ++ reached_line count nodes) }
 {
     write_reached_words(output, count)?;
-    output.put_number(nodes)?;
+    output.put_spaced_number(nodes)?;
     output.put(b" nodes searched\n")
 }
 
@@ -106,7 +106,7 @@ fn write_reached_words(output: &mut Text, count: u64) -> Result<(), AllocError>
     ensures { OnOk result (output.new ≡ output.old ++ reached_words count) }
 {
     output.put(b"these are all outcomes in which no simulator runs out of turns:")?;
-    output.put_number(count)?;
+    output.put_spaced_number(count)?;
     output.put(b" of them,")
 }
 
@@ -114,7 +114,7 @@ fn write_missed(output: &mut Text, missed: u64, nodes: u64) -> Result<(), AllocE
     ensures { OnOk result (output.new ≡ output.old ++ missed_line missed nodes) }
 {
     write_missed_words(output, missed)?;
-    output.put_number(nodes)?;
+    output.put_spaced_number(nodes)?;
     output.put(
         b" nodes, which may have others, no schedule was found; if the room has few turns, try more\n",
     )
@@ -124,7 +124,7 @@ fn write_missed_words(output: &mut Text, missed: u64) -> Result<(), AllocError>
     ensures { OnOk result (output.new ≡ output.old ++ missed_words missed) }
 {
     output.put(b"some outcomes may be missing: for")?;
-    output.put_number(missed)?;
+    output.put_spaced_number(missed)?;
     output.put(b" of")
 }
 
@@ -141,6 +141,6 @@ fn write_unfinished_by(output: &mut Text, limit: u32, advice: &[u8]) -> Result<(
     ensures { OnOk result (output.new ≡ output.old ++ unfinished_line limit advice.now) }
 {
     output.put(b"more than")?;
-    output.put_number(u64::from(limit))?;
+    output.put_spaced_number(u64::from(limit))?;
     output.put(advice)
 }

@@ -78,7 +78,7 @@ fn write_number(output: &mut Text, words: &[u8], number: u64) -> Result<(), Allo
     ensures { OnOk result (output.new ≡ output.old ++ (words.now ++ (32 ∷ decimal number))) }
 {
     output.put(words)?;
-    output.put_number(number)
+    output.put_spaced_number(number)
 }
 
 /// Writes these outcomes of a room: how often each came, and a script for `play` that leads to it, unless scripts are left out.
@@ -225,12 +225,12 @@ fn write_stretch(output: &mut Text, name: &[u8], stretch: &Stretch) -> Result<()
     match stretch {
         Stretch::Steps { simulator, count } => {
             output.put_two(b"step ", name)?;
-            output.put_number(u64::from(*simulator))?;
-            output.put_number(u64::from(*count))?;
+            output.put_spaced_number(u64::from(*simulator))?;
+            output.put_spaced_number(u64::from(*count))?;
         }
         Stretch::Crash { simulator } => {
             output.put_two(b"crash ", name)?;
-            output.put_number(u64::from(*simulator))?;
+            output.put_spaced_number(u64::from(*simulator))?;
         }
     }
     output.put(b"\n")
@@ -346,7 +346,7 @@ pub(crate) fn write_number_words(
 ) -> Result<(), AllocError>
     ensures { OnOk result (output.new ≡ output.old ++ number_words number things.now) }
 {
-    output.put_number(number)?;
+    output.put_spaced_number(number)?;
     output.put(things)
 }
 

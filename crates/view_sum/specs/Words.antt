@@ -44,7 +44,7 @@ hint_words (OtherCount listed) = codes "sample the parts without `--top`, and sh
 hint_words Unended = codes "perhaps the sample was not written to its end"
 hint_words TooMany = codes "the schedules of a seed have the numbers 0 to 4294967295"
 hint_words OtherRooms = codes "each file has a part of the schedules of the same rooms"
-hint_words (OtherPlan member) = codes "the parts of a sample differ in `--from` and `--schedules` alone"
+hint_words (OtherPlan member) = codes "the parts of a sample differ only in `--from` and `--schedules`"
 hint_words (Overlap expected) = codes "give each schedule to one file: `bgview sample --from K` begins with the number K"
 hint_words (Gap expected) = codes "`bgview sample --from K` begins with the number K, and a file for those is not here"
 

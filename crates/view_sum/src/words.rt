@@ -34,7 +34,7 @@ fn write_place(output: &mut Text, name: &str, line: u64) -> Result<(), AllocErro
 {
     output.put_two(b"    ", name.as_bytes())?;
     output.put(b", line")?;
-    output.put_number(line)?;
+    output.put_spaced_number(line)?;
     output.put(b": ")
 }
 
@@ -50,8 +50,10 @@ fn write_subject(output: &mut Text, other: &str, reason: Reason) -> Result<(), A
     ensures { OnOk result (output.new ≡ output.old ++ subject_words other.now reason) }
 {
     match reason {
-        Reason::OtherCount { listed } => output.put_number(listed),
-        Reason::Overlap { expected } | Reason::Gap { expected } => output.put_number(expected),
+        Reason::OtherCount { listed } => output.put_spaced_number(listed),
+        Reason::Overlap { expected } | Reason::Gap { expected } => output.put_spaced_number(
+            expected,
+        ),
         Reason::OtherRooms | Reason::OtherPlan(_) => output.put_two(b" ", other.as_bytes()),
         _ => Ok(()),
     }
@@ -110,7 +112,7 @@ fn hint_words(reason: Reason) -> &'static [u8]
         Reason::Unended => b"perhaps the sample was not written to its end",
         Reason::TooMany => b"the schedules of a seed have the numbers 0 to 4294967295",
         Reason::OtherRooms => b"each file has a part of the schedules of the same rooms",
-        Reason::OtherPlan(_) => b"the parts of a sample differ in `--from` and `--schedules` alone",
+        Reason::OtherPlan(_) => b"the parts of a sample differ only in `--from` and `--schedules`",
         Reason::Overlap { .. } =>
             b"give each schedule to one file: `bgview sample --from K` begins with the number K",
         Reason::Gap { .. } =>

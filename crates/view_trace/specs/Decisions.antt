@@ -17,7 +17,7 @@ decision_line i (Some value) = simulator_words i (codes " has decided") ++ ((32 
 abbrev pub decision_lines : List (Option ℕ) → List ℕ
 decision_lines decisions = concat (map (λ i. decision_line i (slice_index_or decisions i None)) (range_with_len 0 (length decisions)))
 
--- as text. In JSON each step has what the simulator decides by it.
+-- as text. In JSON the report has them.
 abbrev pub decisions_shown : Bool → List (Option ℕ) → List ℕ
 decisions_shown false decisions = decision_lines decisions
 decisions_shown true decisions = []

@@ -15,6 +15,10 @@ abbrev pub input_line : ℕ → Option ℕ → List ℕ
 input_line j None = process_words j (codes " has no input yet\n")
 input_line j (Some value) = process_words j (codes " has the input") ++ ((32 ∷ decimal value) ++ codes "\n")
 
+-- the input of each process, as far as it is agreed on
+abbrev pub known_inputs : RoomState → List (Option ℕ)
+known_inputs room = map (input_of room) (range_with_len 0 (processes room.spec))
+
 -- a line for each process
 abbrev pub input_lines : RoomState → List ℕ
 input_lines room = concat (map (λ j. input_line j (input_of room j)) (range_with_len 0 (processes room.spec)))
@@ -27,7 +31,7 @@ abbrev pub inputs_at : Option RoomState → List ℕ
 inputs_at None = []
 inputs_at (Some room) = inputs_in room
 
--- as text. In JSON the step that loads an input has it.
+-- as text. In JSON the report has them.
 abbrev pub inputs_shown : Bool → Option RoomState → List ℕ
 inputs_shown false room = inputs_at room
 inputs_shown true room = []

@@ -114,10 +114,10 @@ AreNotesFor json missed rooms (Unread line) after notes = notes ≡ block_shown 
 
 -- ---- a whole script
 
--- what `play` writes of what was done, or an object of JSON
-abbrev pub done_shown : Bool → Done → List ℕ
-done_shown false done = done_text done
-done_shown true done = json_line (done_data done)
+-- what `play` writes of what was done, which left these rooms, or an object of JSON
+abbrev pub done_shown : Bool → Entries → Done → List ℕ
+done_shown false left done = done_text done
+done_shown true left done = json_line (done_data left done)
 
 -- what is said so far, and what is known of rooms that don't exist
 pub record Traced : Type 0 where
@@ -132,7 +132,7 @@ pub record IsTraced (json : Bool) (before : Traced) (rooms : Entries) (done : Do
   pub notes : List ℕ
   pub are_notes : AreNotesFor json before.missed rooms done left notes
   pub missed : now.missed ≡ missed_after before.missed done
-  pub output : now.output ≡ before.output ++ (done_shown json done ++ notes)
+  pub output : now.output ≡ before.output ++ (done_shown json left done ++ notes)
 
 -- what is said at the end of a script, in text
 abbrev pub end_shown : Bool → List ℕ → MissedRooms → List ℕ
@@ -180,14 +180,14 @@ abbrev pub notes_after : Bool → MissedRooms → List ℕ → Reply → Option 
 notes_after json missed name (Refused refusal) reporting = refusal_shown json missed name refusal
 notes_after json missed name reply reporting = lines_in reporting
 
--- what is written of a reply
-abbrev pub answer_text : Bool → List ℕ → ℕ → Reply → List ℕ
-answer_text false name sim reply = reply_text name sim reply
-answer_text true name sim reply = json_line (reply_data name sim reply)
+-- what is written of a reply to a command that left the room so
+abbrev pub answer_text : Bool → Option RoomState → List ℕ → ℕ → Reply → List ℕ
+answer_text false room name sim reply = reply_text name sim reply
+answer_text true room name sim reply = json_line (reply_data room name sim reply)
 
 -- what is written of a block that was refused, and of one that was not read
 abbrev pub fault_written : Bool → ℕ → SpecFault → List ℕ
-fault_written json line fault = done_shown json (Faulty line fault) ++ block_shown json (sentence_of fault)
+fault_written json line fault = done_shown json [] (Faulty line fault) ++ block_shown json (sentence_of fault)
 
 abbrev pub out_of_memory_written : Bool → ℕ → List ℕ
-out_of_memory_written json line = done_shown json (Unread line) ++ block_shown json (refusal_sentence OutOfMemory)
+out_of_memory_written json line = done_shown json [] (Unread line) ++ block_shown json (refusal_sentence OutOfMemory)

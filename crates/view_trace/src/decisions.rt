@@ -80,13 +80,13 @@ pub(crate) fn write_number(
     ensures { OnOk result (output.new ≡ output.old ++ (words.now ++ ((32 ∷ decimal number) ++ after.now))) }
 {
     output.put(words)?;
-    output.put_number(number)?;
+    output.put_spaced_number(number)?;
     output.put(after)
 }
 
 pub(crate) fn write_value(output: &mut Text, value: u32) -> Result<(), AllocError>
     ensures { OnOk result (output.new ≡ output.old ++ ((32 ∷ decimal value) ++ codes "\n")) }
 {
-    output.put_number(u64::from(value))?;
+    output.put_spaced_number(u64::from(value))?;
     output.put(b"\n")
 }

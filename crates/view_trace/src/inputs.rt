@@ -2,11 +2,13 @@
 ghost use Rattle.std.specs.Prelude.{◌≡◌, ◌++◌, OnOk};
 ghost use Rattle.service_core.specs.Rooms.{room_at};
 ghost use Rattle.room_core.specs.Calls.{input_of};
-ghost use Rattle.view_trace.specs.Inputs.{input_line, input_lines, inputs_in, inputs_shown, inputs_under, process_words};
+ghost use Rattle.view_trace.specs.Inputs.{input_line, input_lines, inputs_in, inputs_shown, inputs_under, known_inputs, process_words};
 
 use crate::decisions::{write_number, write_value};
+use arrayvec::ArrayVec;
 use io_text::Text;
 use room_core::RoomCore;
+use room_spec::MAX_PROCESSES;
 use service_core::{Reply, Service};
 use std::alloc::AllocError;
 
@@ -54,6 +56,17 @@ fn write_inputs_in(output: &mut Text, room: &RoomCore) -> Result<(), AllocError>
     } else {
         Ok(())
     }
+}
+
+/// The input of each process, as far as it is agreed on.
+pub(crate) fn known_inputs(room: &RoomCore) -> ArrayVec<Option<u32>, MAX_PROCESSES>
+    ensures { result.items ≡ known_inputs room.now }
+{
+    let mut inputs = ArrayVec::new();
+    for process in 0..room.spec().n() {
+        inputs.push(room.input(process));
+    }
+    inputs
 }
 
 fn write_lines(output: &mut Text, room: &RoomCore) -> Result<(), AllocError>

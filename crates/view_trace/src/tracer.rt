@@ -39,16 +39,20 @@ impl<const JSON: bool> Tracer<JSON> {
         }
     }
 
-    /// Writes a reply.
-    fn write_answer(&mut self, asked: &Asked<'_>, reply: &Reply) -> Result<(), AllocError>
-        ensures output { OnOk result (self.new.output ≡ self.old.output ++ answer_text JSON asked.now.name.now (sim_for asked.now.order) reply.now) }
+    /// Writes a reply to a command, which left these rooms.
+    fn write_answer(
+        &mut self,
+        asked: &Asked<'_>,
+        reply: &Reply,
+        rooms: &Service,
+    ) -> Result<(), AllocError>
+        ensures output { OnOk result (self.new.output ≡ self.old.output ++ answer_text JSON (room_at rooms.now asked.now.name.now) asked.now.name.now (sim_for asked.now.order) reply.now) }
         ensures missed { self.new.missed ≡ self.old.missed }
     {
-        let sim = asked.order.sim();
         if JSON {
-            return write_reply_object(self.alloc, &mut self.output, asked.name, sim, reply);
+            return write_reply_object(self.alloc, &mut self.output, asked, reply, rooms);
         }
-        write_reply(&mut self.output, asked.name, sim, reply)
+        write_reply(&mut self.output, asked.name, asked.order.sim(), reply)
     }
 
     /// Writes under a reply to a command with this name why the command was refused, or the steps that it took.
@@ -143,7 +147,7 @@ impl<const JSON: bool> Follows for Tracer<JSON> {
         watch: &mut Option<StepTexts>,
         rooms: &Service,
     ) -> Result<(), AllocError> {
-        self.write_answer(asked, &reply)?;
+        self.write_answer(asked, &reply, rooms)?;
         self.write_notes(asked.name, &reply, watch.take())?;
         write_left::<JSON>(&mut self.output, &reply, rooms, asked.name)
     }

@@ -13,7 +13,7 @@ ghost use Rattle.fault_text.specs.Lines.{indented, indented_all};
 ghost use Rattle.fault_text.specs.Refusals.{refusal_line};
 ghost use Rattle.view_why.specs.Why.{AreHeard, IsBecause, IsExcessSaid, IsExplanation, IsExplanationFor, IsExplanationIn, IsJsonExplanationFor, IsReasonFor, IsRoomSaid, IsSaid, IsTaskReason, refusals_shown, task_verdict_of, verdict_of};
 
-use crate::excess::write_excess_words;
+use crate::excess::{Task, write_excess_words};
 use crate::inputs::{own_inputs, task_inputs};
 use crate::keeping::{with_kept, write_kept};
 use crate::objects::write_object;
@@ -288,14 +288,12 @@ fn write_excess(
     let before = reported.decided_before(alloc, excess.at)?;
     let inputs = task_inputs(alloc, &reported.spec)?;
     output.put(b"    ")?;
-    write_excess_words(
-        output,
-        &reported.spec,
-        inputs.as_slice(),
-        excess.most,
-        event,
-        before.as_slice(),
-    )?;
+    let task = Task {
+        spec: &reported.spec,
+        inputs: inputs.as_slice(),
+        most: excess.most,
+    };
+    write_excess_words(output, &task, event, before.as_slice())?;
     output.put(b"\n")
 }
 

@@ -11,22 +11,28 @@ use room_spec::Spec;
 use std::alloc::AllocError;
 use transcript::Event;
 
-/// Writes why the room's task, which allows `most` different values of these inputs, doesn't allow an event after these decisions.
+/// The task of a room, which allows `most` different values of these inputs: those that were given in the room.
+#[derive(Clone, Copy)]
+pub struct Task<'a> {
+    pub spec: &'a Spec,
+    pub inputs: &'a [u32],
+    pub most: u8,
+}
+
+/// Writes why the task doesn't allow an event after these decisions.
 pub fn write_excess_words(
     output: &mut Text,
-    spec: &Spec,
-    inputs: &[u32],
-    most: u8,
+    task: &Task<'_>,
     event: &Event,
     before: &[Decision],
 ) -> Result<(), AllocError>
-    requires { inputs.now ≡ given_inputs spec.now }
-    ensures { OnOk result (output.new ≡ output.old ++ excess_words spec.now most event.now before.now) }
+    requires { task.now.inputs.now ≡ given_inputs task.now.spec.now }
+    ensures { OnOk result (output.new ≡ output.old ++ excess_words task.now.spec.now task.now.most event.now before.now) }
 {
     match event {
         Event::Decide { v, .. } => {
             write_of_process(output, b"decides", u64::from(*v), b"; ")?;
-            write_excess_why(output, spec, inputs, most, *v, before)
+            write_excess_why(output, task, *v, before)
         }
         Event::Write { .. } => Ok(()),
         Event::Snap { .. } => Ok(()),
@@ -35,20 +41,18 @@ pub fn write_excess_words(
 
 fn write_excess_why(
     output: &mut Text,
-    spec: &Spec,
-    inputs: &[u32],
-    most: u8,
+    task: &Task<'_>,
     v: u32,
     before: &[Decision],
 ) -> Result<(), AllocError>
-    requires { inputs.now ≡ given_inputs spec.now }
-    ensures { OnOk result (output.new ≡ output.old ++ excess_why spec.now most v before.now) }
+    requires { task.now.inputs.now ≡ given_inputs task.now.spec.now }
+    ensures { OnOk result (output.new ≡ output.old ++ excess_why task.now.spec.now task.now.most v before.now) }
 {
-    if !inputs.contains(&v) {
-        return write_no_owner(output, spec.is_reduction());
+    if !task.inputs.contains(&v) {
+        return write_no_owner(output, task.spec.is_reduction());
     }
     write_decisions(output, before)?;
-    write_allowed(output, most)
+    write_allowed(output, task.most)
 }
 
 /// Writes that no process has a value as its input, or in a reduction no simulator.

@@ -39,7 +39,7 @@ fn write_disallowed_line(output: &mut Text, name: &[u8], line: u64) -> Result<()
     ensures { OnOk result (output.new ≡ output.old ++ disallowed_line name.now line) }
 {
     output.put_two(name, b" decisions broken: line")?;
-    output.put_number(line)?;
+    output.put_spaced_number(line)?;
     output.put(b"\n")
 }
 

@@ -80,7 +80,7 @@ pub(crate) fn write_of_process(
     ensures { OnOk result (output.new ≡ output.old ++ process_words before.now process behind.now) }
 {
     output.put(before)?;
-    output.put_number(process)?;
+    output.put_spaced_number(process)?;
     output.put(behind)
 }
 
@@ -108,7 +108,7 @@ fn write_value(output: &mut Text, before: &[u8], v: u32) -> Result<(), AllocErro
     ensures { OnOk result (output.new ≡ output.old ++ process_words before.now v (codes "")) }
 {
     output.put(before)?;
-    output.put_number(u64::from(v))
+    output.put_spaced_number(u64::from(v))
 }
 
 fn write_shown(output: &mut Text, process: u64, shown: Option<u32>) -> Result<(), AllocError>

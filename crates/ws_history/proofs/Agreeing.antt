@@ -13,7 +13,7 @@ use Rattle.sim_memory.specs.Steps.{AreSameSteps}
 use Rattle.sim_memory.proofs.CallerLemmas.{merged_same, row_same}
 use Rattle.view_table.specs.Places.{IsAgreementRound}
 use Rattle.view_table.proofs.CallerLemmas.{agreement_round, zero_agreed}
-use Rattle.room_core.specs.Agreements.{agreed_input, asks, decided_in, first_with, greatest_step, has_looked_blind, has_out, input_at, is_clean, is_fixed, is_input_known, is_out, is_passed, leaves_blind, outs_at, row_at, run_spec, shown, shown_by, shown_of, view_at, written}
+use Rattle.room_core.specs.Agreements.{agreed_input, asks, decided_in, first_with, greatest_step, has_looked_blind, has_out, input_at, is_resolved, is_fixed, is_input_known, is_out, is_passed, leaves_blind, outs_at, row_at, run_spec, shown, shown_by, shown_of, view_at, written}
 use Rattle.simulator.specs.Minds.{MindOf, current_round, goal_at, has_input}
 use Rattle.room_core.specs.Fields.{Fields, StepMap, levels_at}
 use Rattle.room_core.specs.Reading.{AgreeIn}
@@ -57,14 +57,14 @@ module _ (spec : RoomSpec) (F G : Fields) (some : 0 < spec.simulators) (agree : 
   pub same_levels : (j k : ℕ) → j < processes spec → 1 ≤ k → k ≤ spec.rounds → levels_at spec F j k ≡ levels_at spec G j k
   same_levels j k below first last = same_levels_in j k below (agreement_round (sizes_in spec) k (first, last))
 
-  pub same_clean : (j k : ℕ) → j < processes spec → 1 ≤ k → k ≤ spec.rounds → is_clean spec F j k ≡ is_clean spec G j k
-  same_clean j k below first last = ap (λ (l : List ℕ). has_level 2 l && not (has_level 1 l)) (same_levels j k below first last)
+  pub same_resolved : (j k : ℕ) → j < processes spec → 1 ≤ k → k ≤ spec.rounds → is_resolved spec F j k ≡ is_resolved spec G j k
+  same_resolved j k below first last = ap (λ (l : List ℕ). has_level 2 l && not (has_level 1 l)) (same_levels j k below first last)
 
   pub same_passed : (j k : ℕ) → j < processes spec → 1 ≤ k → k ≤ spec.rounds → is_passed spec F j k ≡ is_passed spec G j k
   same_passed j k below first last =
-      ap (λ (b : Bool). b || nat_lt k (greatest_step spec F j) || (has_out spec F j && (greatest_step spec F j == k))) (same_clean j k below first last)
-      ∙ ap (λ (g : ℕ). is_clean spec G j k || nat_lt k g || (has_out spec F j && (g == k))) (same_greatest j below)
-      ∙ ap (λ (l : List ℕ). is_clean spec G j k || nat_lt k (greatest_step spec G j) || (list_any is_out l && (greatest_step spec G j == k))) (same_outs j below)
+      ap (λ (b : Bool). b || nat_lt k (greatest_step spec F j) || (has_out spec F j && (greatest_step spec F j == k))) (same_resolved j k below first last)
+      ∙ ap (λ (g : ℕ). is_resolved spec G j k || nat_lt k g || (has_out spec F j && (g == k))) (same_greatest j below)
+      ∙ ap (λ (l : List ℕ). is_resolved spec G j k || nat_lt k (greatest_step spec G j) || (list_any is_out l && (greatest_step spec G j == k))) (same_outs j below)
 
   pub same_fixed_in : (j k : ℕ) → j < processes spec → IsAgreementRound (sizes_in spec) k → is_fixed spec F j k ≡ is_fixed spec G j k
   same_fixed_in j k below round =

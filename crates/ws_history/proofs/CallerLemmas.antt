@@ -7,4 +7,4 @@ pub use Rattle.ws_history.proofs.RunSpecs.{agreed_is, inputs, low_in_run, low_of
 pub use Rattle.ws_history.proofs.SourceIs.{fields_run, ordinary_fields_run, reduction_fields_run}
 pub use Rattle.ws_history.proofs.Settled.{most_are_over}
 pub use Rattle.ws_history.proofs.Spending.{ordinary_spent_there, spent_there}
-pub use Rattle.ws_history.proofs.RoomFields.{clean_knows, states_in}
+pub use Rattle.ws_history.proofs.RoomFields.{resolved_knows, states_in}

@@ -6,7 +6,7 @@ use Rattle.std.proofs.lemmas.List.Sums.{sum_by-cons}
 use Rattle.protocol_lang.specs.declared.meaning.Action.{Action}
 use Rattle.protocol_lang.specs.declared.meaning.Action.TheVariants as actions
 use Rattle.room_spec.specs.Rooms.{IsCertified, IsWithinLimits, RoomSpec, is_reduction, processes}
-use Rattle.room_core.specs.Agreements.{HasAgreed, asks, decided_in, is_clean, is_fixed}
+use Rattle.room_core.specs.Agreements.{HasAgreed, asks, decided_in, is_resolved, is_fixed}
 use Rattle.room_core.specs.Calls.{RoomState}
 use Rattle.room_core.specs.Fields.{Fields}
 use Rattle.room_core.specs.Reading.{AreFieldsOf}
@@ -25,7 +25,7 @@ unspent_by false action _ = refl
 module _ (room : RoomState) (fields : Fields) (limits : IsWithinLimits room.spec) (are : AreFieldsOf room fields) (f : ℕ) (certified : IsCertified room.spec f) (which : (is_reduction room.spec ≡ false) ⊎ (room.spec.simulators ≤ f + 1)) where
   unspent : 2 ≤ room.spec.rounds → (j : ℕ) → j < processes room.spec → is_spent room.spec fields j ≡ false
   unspent two j within =
-      unspent_by (is_clean room.spec fields j room.spec.rounds) (asks room.spec fields j room.spec.rounds) (λ clean v is. none_spent room fields limits are f certified which j v two within clean is)
+      unspent_by (is_resolved room.spec fields j room.spec.rounds) (asks room.spec fields j room.spec.rounds) (λ resolved v is. none_spent room fields limits are f certified which j v two within resolved is)
 
 -- ---- states
 
@@ -66,7 +66,7 @@ over_by None false None over = absurd cc
 
 spent_out : (spec : RoomSpec) (fields : Fields) → HasAgreed spec fields → 1 ≤ spec.rounds → (j : ℕ) → j < processes spec → is_spent spec fields j ≡ true → is_out_of_rounds spec fields j ≡ true
 spent_out spec fields has some j low spent =
-    let parts = and_parts (is_clean spec fields j spec.rounds) (is_write (asks spec fields j spec.rounds)) spent in
+    let parts = and_parts (is_resolved spec fields j spec.rounds) (is_write (asks spec fields j spec.rounds)) spent in
     and_from (is_fixed spec fields j spec.rounds) _ (test_of spec fields j spec.rounds (has.passed_is_fixed j spec.rounds low some (or_left _ _ (or_left _ _ parts.0)))) parts.1
 
 kept_length : (b : Bool) (x : ℕ) (rest : List ℕ) → length (cond b (x ∷ rest) rest) ≡ cond b 1 0 + length rest

@@ -7,7 +7,7 @@ use Rattle.room_spec.specs.Sizes.{sizes_in}
 use Rattle.view_table.specs.declared.place.Place.TheVariants as places
 use Rattle.sim_memory.specs.Steps.{step_in}
 use Rattle.sim_memory.proofs.CallerLemmas.{merged_below, step_below}
-use Rattle.room_core.specs.Agreements.{HasAgreed, agreed_input, greatest_step, is_clean, is_input_known, is_passed, row_at, run_spec, shown_of}
+use Rattle.room_core.specs.Agreements.{HasAgreed, agreed_input, greatest_step, is_resolved, is_input_known, is_passed, row_at, run_spec, shown_of}
 use Rattle.room_core.specs.Calls.{RoomState}
 use Rattle.room_core.specs.Fields.{Fields}
 use Rattle.room_core.specs.Reading.{AgreeIn, AreFieldsOf, words_from}
@@ -17,7 +17,7 @@ use Rattle.ws_history.specs.Orders.{all_passed}
 use Rattle.ws_history.specs.Readings.{read_of}
 use Rattle.ws_history.specs.Sources.{history_of, source_of}
 use Rattle.ws_history.specs.Unreadable.{unreadable_of}
-use Rattle.ws_history.proofs.Agreeing.{same_agreed, same_clean, same_known, same_passed, same_row, same_run}
+use Rattle.ws_history.proofs.Agreeing.{same_agreed, same_resolved, same_known, same_passed, same_row, same_run}
 use Rattle.ws_history.proofs.PassedSources.{apart}
 use Rattle.ws_history.proofs.Ranges.{row_low}
 use Rattle.ws_history.proofs.RunSpecs.{processes_run, rounds_run}
@@ -95,14 +95,14 @@ module _ (room : RoomState) where
       same_run room.spec (read_of room) fields (omega arith) (read_agrees fields limits are)
 
   -- once the agreement on its last snapshot can be read its input is known
-  pub clean_knows : (fields : Fields) → IsWithinLimits room.spec → AreFieldsOf room fields → (j : ℕ) → j < processes room.spec → is_reduction room.spec ≡ true → is_clean room.spec (read_of room) j room.spec.rounds ≡ true → is_input_known room.spec (read_of room) j ≡ true
-  clean_knows fields limits are j low kind clean =
+  pub resolved_knows : (fields : Fields) → IsWithinLimits room.spec → AreFieldsOf room fields → (j : ℕ) → j < processes room.spec → is_reduction room.spec ≡ true → is_resolved room.spec (read_of room) j room.spec.rounds ≡ true → is_input_known room.spec (read_of room) j ≡ true
+  resolved_knows fields limits are j low kind resolved =
       let first = limits.shape.rounds_range.0 in
       let some = limits.shape.m_range.0 in
       let agree = read_agrees fields limits are in
       let has = rooms_agree room fields limits are in
       let last : room.spec.rounds ≤ room.spec.rounds = omega arith in
-      let there : is_clean room.spec fields j room.spec.rounds ≡ true = sym (same_clean room.spec (read_of room) fields (omega arith) agree j room.spec.rounds low first last) ∙ clean in
+      let there : is_resolved room.spec fields j room.spec.rounds ≡ true = sym (same_resolved room.spec (read_of room) fields (omega arith) agree j room.spec.rounds low first last) ∙ resolved in
       let fixed = has.passed_is_fixed j room.spec.rounds low first (or_left _ _ (or_left _ _ there)) in
       let own = has.own_entry_is_exact j room.spec.rounds low first last fixed in
       let counted = has.row_is_within j room.spec.rounds j low first last fixed low in

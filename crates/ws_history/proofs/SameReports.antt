@@ -7,12 +7,12 @@ use Rattle.std.specs.List.{filter, find, list_any, range_with_len}
 use Rattle.protocol_lang.specs.declared.meaning.Action.{Action}
 use Rattle.room_spec.specs.Rooms.{RoomSpec, is_reduction, processes}
 use Rattle.room_spec.specs.Sizes.{sizes_in}
-use Rattle.room_core.specs.Agreements.{asks, decided_in, is_clean, row_at}
+use Rattle.room_core.specs.Agreements.{asks, decided_in, is_resolved, row_at}
 use Rattle.room_core.specs.Fields.{Fields}
 use Rattle.room_core.specs.Reading.{AgreeIn}
 use Rattle.room_core.specs.Settled.{crashed_in, is_write}
 use Rattle.ws_history.specs.Reports.{held_by, is_inside, is_inside_input, is_spent, state_by, state_of, states_of}
-use Rattle.ws_history.proofs.Agreeing.{same_asks, same_clean, same_decided}
+use Rattle.ws_history.proofs.Agreeing.{same_asks, same_resolved, same_decided}
 use Rattle.ws_history.proofs.Walking.{map_same}
 
 pub find_same : (p q : ℕ → Bool) (a n : ℕ) → ((i : ℕ) → a ≤ i → i < a + n → p i ≡ q i) → find p (range_with_len a n) ≡ find q (range_with_len a n)
@@ -54,8 +54,8 @@ module _ (spec : RoomSpec) (F G : Fields) (some : 0 < spec.simulators) (rounds :
 
   same_spent : (j : ℕ) → j < processes spec → is_spent spec F j ≡ is_spent spec G j
   same_spent j process =
-      ap (λ (b : Bool). b && is_write (asks spec F j spec.rounds)) (same_clean spec F G some agree j spec.rounds process rounds (omega arith))
-      ∙ ap (λ (a : Action). is_clean spec G j spec.rounds && is_write a) (same_asks spec F G some agree j spec.rounds process rounds (omega arith) (low j spec.rounds))
+      ap (λ (b : Bool). b && is_write (asks spec F j spec.rounds)) (same_resolved spec F G some agree j spec.rounds process rounds (omega arith))
+      ∙ ap (λ (a : Action). is_resolved spec G j spec.rounds && is_write a) (same_asks spec F G some agree j spec.rounds process rounds (omega arith) (low j spec.rounds))
 
   same_state : (j : ℕ) → j < processes spec → state_of spec F j ≡ state_of spec G j
   same_state j process =

@@ -11,7 +11,7 @@ use Rattle.room_spec.specs.Rooms.{RoomSpec, IsWithinLimits, is_reduction, proces
 use Rattle.room_core.specs.Calls.{RoomState}
 use Rattle.room_core.specs.Fields.{Fields}
 use Rattle.room_core.specs.Reading.{AreFieldsOf}
-use Rattle.room_core.specs.Agreements.{decided_in, is_clean, is_out, outs_at}
+use Rattle.room_core.specs.Agreements.{decided_in, is_resolved, is_out, outs_at}
 use Rattle.room_core.specs.Settled.{IsSettledFor, decided, spent, held, held_input, crashed_in, is_write}
 use Rattle.ws_history.specs.declared.states.ProcessState.{ProcessState}
 use Rattle.ws_history.specs.Reports.{held_by, is_held, is_inside, is_over, is_spent, state_by, state_of, states_of}
@@ -61,7 +61,7 @@ plain : (spec : RoomSpec) (fields : Fields) (j : ℕ) → IsSettledFor spec fiel
 plain spec fields j (decided has) =
     let first = any_found is_out (outs_at spec fields j) has in
     plain_out (decided_in spec fields j) (is_spent spec fields j) (held_by spec fields j) (first.0 - 1) (ap (λ (out : Option ℕ). option_map (λ o. o - 1) out) first.1)
-plain spec fields j (spent value clean write) = plain_spent (decided_in spec fields j) (is_spent spec fields j) (held_by spec fields j) (and_from (is_clean spec fields j spec.rounds) _ clean (ap is_write write))
+plain spec fields j (spent value resolved write) = plain_spent (decided_in spec fields j) (is_spent spec fields j) (held_by spec fields j) (and_from (is_resolved spec fields j spec.rounds) _ resolved (ap is_write write))
 plain spec fields j (held i k below crashed first last one) =
     plain_inside spec fields i j below crashed (or_right _ _ (range_any (λ r. eqb (fields.level i j r) 1) 1 spec.rounds k first (omega arith) (eq-eqb (fields.level i j k) 1 one)))
 plain spec fields j (held_input i is below crashed one) =

@@ -13,7 +13,7 @@ use Rattle.transcript.specs.Runs.{IsOutOfRounds, action_due, is_snap_by, is_writ
 use Rattle.room_core.specs.Calls.{RoomState}
 use Rattle.room_core.specs.Fields.{Fields}
 use Rattle.room_core.specs.Reading.{AreFieldsOf}
-use Rattle.room_core.specs.Agreements.{HasAgreed, asks, decided_in, greatest_step, is_clean, is_out, is_passed, outs_at, run_spec}
+use Rattle.room_core.specs.Agreements.{HasAgreed, asks, decided_in, greatest_step, is_resolved, is_out, is_passed, outs_at, run_spec}
 use Rattle.room_core.proofs.CallerLemmas.{rooms_agree}
 use Rattle.ws_history.specs.declared.states.ProcessState.TheVariants as states
 use Rattle.ws_history.specs.Histories.{Source, IsSource, shown_row}
@@ -101,7 +101,7 @@ is_far spec fields has j low =
 
 from_spent : (spec : RoomSpec) (fields : Fields) → HasAgreed spec fields → (j : ℕ) → j < processes spec → 1 ≤ spec.rounds → state_of spec fields j ≡ states.Spent → IsOutOfRounds (run_spec spec fields) (history_of spec fields) j
 from_spent spec fields has j low some is =
-    let both = and_parts (is_clean spec fields j spec.rounds) (is_write (asks spec fields j spec.rounds)) (spent_by (decided_in spec fields j) (is_spent spec fields j) (held_by spec fields j) is).1 in
+    let both = and_parts (is_resolved spec fields j spec.rounds) (is_write (asks spec fields j spec.rounds)) (spent_by (decided_in spec fields j) (is_spent spec fields j) (held_by spec fields j) is).1 in
     let c = last_round (source_of spec fields).order j in
     let far = is_far spec fields has j low in
     let passes : is_passed spec fields j spec.rounds ≡ true = or_left _ _ (or_left _ _ both.0) in
@@ -126,7 +126,7 @@ to_spent spec fields has j low some none =
     let write : asks spec fields j spec.rounds ≡ actions.Write none.value = ap (asks spec fields j) (sym all) ∙ sym (far.asked (omega (arith, all, some))) ∙ none.asked in
     let undecided : (v : ℕ) → decided_in spec fields j ≡ Some v → ⊥ = λ v is. not_both v none.value (sym (decided_is spec fields has j v low is) ∙ ap (asks spec fields j) last ∙ write) in
     let passes : is_passed spec fields j spec.rounds ≡ true = ap (is_passed spec fields j) (sym all) ∙ far.there (omega (arith, all, some)) in
-    let clean : is_clean spec fields j spec.rounds ≡ true = elim (or_cases _ _ passes) [
+    let resolved : is_resolved spec fields j spec.rounds ≡ true = elim (or_cases _ _ passes) [
       | inl early ↦ elim (or_cases _ _ early) [
         | inl is ↦ is
         | inr beyond ↦ let more = ltb-true spec.rounds (greatest_step spec fields j) beyond in absurd (omega (arith, more, last))
@@ -136,7 +136,7 @@ to_spent spec fields has j low some none =
           let decided = out_there _ found.0 found.1 in
           absurd (undecided decided.0 decided.1)
     ] in
-    let spent : is_spent spec fields j ≡ true = and_from _ _ clean (ap is_write write) in
+    let spent : is_spent spec fields j ≡ true = and_from _ _ resolved (ap is_write write) in
     ap (λ (out : Option ℕ). state_by out (is_spent spec fields j) (held_by spec fields j)) (none_or_some (decided_in spec fields j) undecided)
     ∙ ap (λ (b : Bool). state_by None b (held_by spec fields j)) spent
 

@@ -8,7 +8,7 @@ use Rattle.transcript.specs.declared.event.Event.TheVariants.{Decide}
 use Rattle.room_core.specs.Calls.{RoomState}
 use Rattle.room_core.specs.Fields.{Fields, decision_in}
 use Rattle.room_core.specs.Reading.{AreFieldsOf}
-use Rattle.room_core.specs.Agreements.{asks, decided_in, has_out, is_clean, run_spec}
+use Rattle.room_core.specs.Agreements.{asks, decided_in, has_out, is_resolved, run_spec}
 use Rattle.room_core.specs.Settled.{crashed_in, is_write}
 use Rattle.ws_history.specs.Sources.{history_of}
 use Rattle.ws_history.specs.Taking.{Keeps, TakesMore}
@@ -19,7 +19,7 @@ use Rattle.ws_history.specs.declared.states.ProcessState.TheVariants.{Decided, S
 
 -- the last snapshot of process j was agreed on, and asks for a write
 abbrev pub is_spent : RoomSpec → Fields → ℕ → Bool
-is_spent spec fields j = is_clean spec fields j spec.rounds && is_write (asks spec fields j spec.rounds)
+is_spent spec fields j = is_resolved spec fields j spec.rounds && is_write (asks spec fields j spec.rounds)
 
 -- simulator i is at level 1 in the agreement on the input of process j, which a reduction has
 abbrev pub is_inside_input : RoomSpec → Fields → ℕ → ℕ → Bool

@@ -5,7 +5,7 @@ ghost use Rattle.room_spec.specs.Rooms.{IsWithinLimits, processes};
 ghost use Rattle.room_spec.specs.Sizes.{memory_words, sizes_in};
 ghost use Rattle.view_table.specs.Places.{IsAgreementRound, IsRound, words_of};
 ghost use Rattle.sim_memory.specs.Steps.{row_of, step_in};
-ghost use Rattle.room_core.specs.Agreements.{asks, first_with, greatest_step, has_looked_blind, has_out, is_clean, is_fixed, is_passed, row_at, shown, shown_by, shown_of, written};
+ghost use Rattle.room_core.specs.Agreements.{asks, first_with, greatest_step, has_looked_blind, has_out, is_resolved, is_fixed, is_passed, row_at, shown, shown_by, shown_of, written};
 ghost use Rattle.ws_history.specs.Readings.{read_of, view_start};
 
 use crate::inputs::input_at;
@@ -19,12 +19,12 @@ use room_core::RoomCore;
 use view_table::{MAX_WORDS, Place, index};
 
 #[tactic(auto, unfolding(crate::specs::Readings::read_of), using(view_table::proofs::CallerLemmas::agreement_round))]
-pub(crate) fn is_clean(room: &RoomCore, j: usize, k: usize) -> bool
+pub(crate) fn is_resolved(room: &RoomCore, j: usize, k: usize) -> bool
     requires process { j < processes room.now.spec }
     requires round { IsRound (sizes_in room.now.spec) k }
-    ensures { result ≡ is_clean room.now.spec (read_of room.now) j k }
+    ensures { result ≡ is_resolved room.now.spec (read_of room.now) j k }
 {
-    safe_agreement::is_clean(levels_word(room, j, k), simulator_count(room))
+    safe_agreement::is_resolved(levels_word(room, j, k), simulator_count(room))
 }
 
 /// How far a process is: how many writes of it have been made, and whether a decision of it is stored.
@@ -48,7 +48,7 @@ pub(crate) fn is_passed(room: &RoomCore, progress: &Progress, k: usize) -> bool
         greatest,
         out,
     } = *progress;
-    k < greatest || (out && greatest == k) || is_clean(room, process, k)
+    k < greatest || (out && greatest == k) || is_resolved(room, process, k)
 }
 
 /// Whether this agreement is fixed: some simulator is at level 2 in it, and no other can come there any more.

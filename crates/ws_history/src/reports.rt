@@ -9,7 +9,7 @@ ghost use Rattle.ws_history.specs.declared.states.ProcessState.TheVariants.{Goin
 ghost use Rattle.ws_history.specs.Readings.{read_of};
 ghost use Rattle.ws_history.specs.Reports.{IsReportTo, IsTrueReport, held_by, held_in, is_decided, is_inside, is_inside_input, is_over, is_spent, report_of, state_of, states_of};
 
-use crate::agreements::{asks, is_clean};
+use crate::agreements::{asks, is_resolved};
 use crate::event_sink::EventSink;
 use crate::histories::{history, pass_history};
 use crate::reading::{
@@ -144,7 +144,7 @@ fn is_spent(room: &RoomCore, j: usize) -> bool
     ensures { result ≡ is_spent room.now.spec (read_of room.now) j }
 {
     let last = round_count(room);
-    is_clean(room, j, last) && matches!(asks(room, j, last), Action::Write(_))
+    is_resolved(room, j, last) && matches!(asks(room, j, last), Action::Write(_))
 }
 
 /// The least simulator that has crashed inside an agreement on a snapshot of process `j`, or on its input.

@@ -3,8 +3,8 @@ use Rattle.std.proofs.Common.{◌≡◌, ◌≢◌, ◌⊎◌, ℕ, ◌<◌, ◌
 use Rattle.std.proofs.lemmas.Bool.{eq-eqb, eqb-true, cases_order}
 use Rattle.room_spec.specs.Rooms.{RoomSpec, is_reduction, processes}
 use Rattle.std.proofs.lemmas.List.FromFn.{length-map-range_with_len, get_or-map-range_with_len}
-use Rattle.safe_agreement.specs.Levels.{IsClean, least_two}
-use Rattle.safe_agreement.proofs.CallerLemmas.{least_two_found, least_two_is, clean_is_fixed, settles}
+use Rattle.safe_agreement.specs.Levels.{IsResolved, least_two}
+use Rattle.safe_agreement.proofs.CallerLemmas.{least_two_found, least_two_is, resolved_is_fixed, settles}
 use Rattle.safe_agreement.specs.Phases.{Phase, Before, Looked, Left, IsFixed}
 use Rattle.simulator.specs.declared.goal.Goal.{Goal}
 use Rattle.simulator.specs.declared.goal.Goal.TheVariants as goals
@@ -156,15 +156,15 @@ counted_is_fixed spec fields i j k tracks sound below first less =
     sound.resolved i j k below first
     (counted_resolved spec.rounds (goal_at mind.goals j) (stage_for mind j) (cond (is_reading mind.line) (eqb j mind.process) false) (fields.step i j) k ((tracks.told i) j).counts less)
 
--- It is clean; or some simulator has gone on from it: it has counted a later write of the process, or has stored a decision, after this
+-- It is resolved; or some simulator has gone on from it: it has counted a later write of the process, or has stored a decision, after this
 -- round or a later one.
 pub data IsPassed (spec : RoomSpec) (fields : Fields) (j k : ℕ) : Type 0 where
-  clean : IsClean (levels_at spec fields j k) → IsPassed spec fields j k
+  resolved : IsResolved (levels_at spec fields j k) → IsPassed spec fields j k
   written : (i : ℕ) → i < spec.simulators → k < fields.step i j → IsPassed spec fields j k
   decided : (i : ℕ) → i < spec.simulators → fields.out i j ≢ 0 → k ≤ fields.step i j → IsPassed spec fields j k
 
 pub passed_is_fixed : (spec : RoomSpec) (fields : Fields) (j k : ℕ) → KeepsTrack spec fields → IsSound spec fields → 1 ≤ k → IsPassed spec fields j k → IsFixed spec.simulators (phases_in fields j k)
-passed_is_fixed spec fields j k tracks sound first (clean is) = clean_is_fixed spec.simulators (phases_in fields j k) (subst IsClean (levels_are_phases spec fields tracks j k) is)
+passed_is_fixed spec fields j k tracks sound first (resolved is) = resolved_is_fixed spec.simulators (phases_in fields j k) (subst IsResolved (levels_are_phases spec fields tracks j k) is)
 passed_is_fixed spec fields j k tracks sound first (written i below less) = counted_is_fixed spec fields i j k tracks sound below first less
 passed_is_fixed spec fields j k tracks sound first (decided i below out most) =
     let mind = fields.mind i in
@@ -183,7 +183,7 @@ fixed_has_least spec fields j k at =
     let within : found.0 < spec.simulators = let b = is.below in omega arith in
     (found.0, within, found.1, sym (read found.0 within) ∙ is.two)
 
--- An agreement of a round before one that was counted, in which nobody is at level 1, is clean: only a simulator that stopped inside
+-- An agreement of a round before one that was counted, in which nobody is at level 1, is resolved: only a simulator that stopped inside
 -- can hold it.
 begun_stage : (rounds : ℕ) (goal : Goal) (stage : Stage) (step : ℕ) → Counts rounds goal stage step → 0 < step → is_unproposed goal stage ≡ false
 begun_stage rounds (goals.Write round value) stages.AtRest step counts less = refl
@@ -203,9 +203,9 @@ left_phase spec fields i j k tracks less =
     ap (λ (b : Bool). cond b Before (phase_begun mind (fields.step i) (fields.level i) j k)) (begun_stage spec.rounds (goal_at mind.goals j) (stage_for mind j) (fields.step i j) (tracks.told i j).counts (omega (arith, less)))
     ∙ ap (λ (p : Progress). phase_of p (fields.level i j k)) (earlier (fields.step i j) k (eqb j mind.process) (line_progress mind.line) less)
 
-pub left_is_clean : (spec : RoomSpec) (fields : Fields) (i j k : ℕ) → KeepsTrack spec fields → IsSound spec fields → i < spec.simulators → 1 ≤ k → k < fields.step i j → ((a : ℕ) → a < spec.simulators → fields.level a j k ≢ 1) → IsClean (levels_at spec fields j k)
-left_is_clean spec fields i j k tracks sound below first less none =
-    subst IsClean (sym (levels_are_phases spec fields tracks j k))
+pub left_is_resolved : (spec : RoomSpec) (fields : Fields) (i j k : ℕ) → KeepsTrack spec fields → IsSound spec fields → i < spec.simulators → 1 ≤ k → k < fields.step i j → ((a : ℕ) → a < spec.simulators → fields.level a j k ≢ 1) → IsResolved (levels_at spec fields j k)
+left_is_resolved spec fields i j k tracks sound below first less none =
+    subst IsResolved (sym (levels_are_phases spec fields tracks j k))
     (settles spec.simulators (phases_in fields j k) i (fields.level i j k) (sound.beside j k (inl first)) below (left_phase spec fields i j k tracks less)
     (λ a within one. none a within (level_is spec.rounds (fields.mind a) (fields.step a) (fields.level a) (tracks.told a) j k ∙ one)))
 
@@ -238,9 +238,9 @@ asking_phase spec fields i j tracks is =
     let counts = subst (λ (goal : Goal). Counts spec.rounds goal (stage_for mind j) (fields.step i j)) is (tracks.told i j).counts in
     ap (λ (goal : Goal). cond (is_unproposed goal (stage_for mind j)) Before (phase_begun mind (fields.step i) (fields.level i) j 0)) is ∙ asking_by spec.rounds (eqb j mind.process) mind.line (fields.step i j) (fields.level i j 0) counts
 
--- an agreement that is fixed, and in which none is at level 1, is clean
-pub fixed_is_clean : (spec : RoomSpec) (fields : Fields) (j k : ℕ) → IsFixedAt spec fields j k → ((a : ℕ) → a < spec.simulators → fields.level a j k ≢ 1) → IsClean (levels_at spec fields j k)
-fixed_is_clean spec fields j k at none =
+-- an agreement that is fixed, and in which none is at level 1, is resolved
+pub fixed_is_resolved : (spec : RoomSpec) (fields : Fields) (j k : ℕ) → IsFixedAt spec fields j k → ((a : ℕ) → a < spec.simulators → fields.level a j k ≢ 1) → IsResolved (levels_at spec fields j k)
+fixed_is_resolved spec fields j k at none =
     let levels = levels_at spec fields j k in
     let long : length levels ≡ spec.simulators = length-map-range_with_len (λ i. fields.level i j k) 0 spec.simulators in
     let read : (i : ℕ) → i < spec.simulators → get_or levels i 0 ≡ fields.level i j k = λ i below. get_or-map-range_with_len (λ a. fields.level a j k) 0 spec.simulators i i 0 below (omega arith) in
@@ -251,9 +251,9 @@ fixed_is_clean spec fields j k at none =
       no_one = λ i below one. let within : i < spec.simulators = omega (arith, long, below) in none i within (sym (read i within) ∙ one);
     }
 
-pub asked_is_clean : (spec : RoomSpec) (fields : Fields) (i j : ℕ) → KeepsTrack spec fields → IsSound spec fields → i < spec.simulators → j < processes spec → is_reduction spec ≡ true → goal_at (fields.mind i).goals j ≡ goals.AskInput
-    → ((a : ℕ) → a < spec.simulators → fields.level a j 0 ≢ 1) → IsClean (levels_at spec fields j 0)
-asked_is_clean spec fields i j tracks sound below within kind is none =
-    subst IsClean (sym (levels_are_phases spec fields tracks j 0))
+pub asked_is_resolved : (spec : RoomSpec) (fields : Fields) (i j : ℕ) → KeepsTrack spec fields → IsSound spec fields → i < spec.simulators → j < processes spec → is_reduction spec ≡ true → goal_at (fields.mind i).goals j ≡ goals.AskInput
+    → ((a : ℕ) → a < spec.simulators → fields.level a j 0 ≢ 1) → IsResolved (levels_at spec fields j 0)
+asked_is_resolved spec fields i j tracks sound below within kind is none =
+    subst IsResolved (sym (levels_are_phases spec fields tracks j 0))
     (settles spec.simulators (phases_in fields j 0) i (fields.level i j 0) (sound.beside j 0 (inr (kind, within))) below (asking_phase spec fields i j tracks is)
     (λ a low one. none a low (level_is spec.rounds (fields.mind a) (fields.step a) (fields.level a) (tracks.told a) j 0 ∙ one)))

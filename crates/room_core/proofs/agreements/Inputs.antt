@@ -17,7 +17,7 @@ use Rattle.room_spec.specs.Sizes.{sizes_in}
 use Rattle.room_spec.proofs.CallerLemmas.{input_small, own_input_small}
 use Rattle.safe_agreement.specs.Levels.{least_two, left_level}
 use Rattle.safe_agreement.specs.Phases.{Before, phase_level}
-use Rattle.safe_agreement.proofs.CallerLemmas.{resolved_to, clean_from, resolves_least}
+use Rattle.safe_agreement.proofs.CallerLemmas.{resolved_to, is_resolved_by, resolves_least}
 use Rattle.simulator.specs.declared.goal.Goal.{Goal}
 use Rattle.simulator.specs.declared.goal.Goal.TheVariants as goals
 use Rattle.simulator.specs.declared.line.Line.TheVariants.{Rest, GetInput}
@@ -350,7 +350,7 @@ module _ (spec : RoomSpec) (limits : IsWithinLimits spec) (fields after : Fields
       let levels = levels_at spec fields p 0 in
       record {
         fixed = fixed_at spec fields tracks p 0 (chosen_is_fixed spec fields p 0 chosen tracks some);
-        is = sym (resolves_least levels (clean_from levels chosen (resolved_to levels chosen some))) ∙ some;
+        is = sym (resolves_least levels (is_resolved_by levels chosen (resolved_to levels chosen some))) ∙ some;
       }
 
   has_fixed : (a p : ℕ) → a < spec.simulators → p < processes spec → is_reduction spec ≡ true → has_input (goal_at (fields.mind a).goals p) ≡ true → IsFixedAt spec fields p 0

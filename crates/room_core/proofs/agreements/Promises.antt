@@ -7,20 +7,20 @@ use Rattle.std.proofs.lemmas.List.Folds.{Any-from_list_any}
 use Rattle.protocol_lang.specs.Meaning.{first_value}
 use Rattle.protocol_lang.specs.declared.meaning.Action.TheVariants as actions
 use Rattle.room_spec.specs.Rooms.{RoomSpec, IsWithinLimits, is_reduction, processes}
-use Rattle.safe_agreement.specs.Levels.{IsClean, has_level}
+use Rattle.safe_agreement.specs.Levels.{IsResolved, has_level}
 use Rattle.safe_agreement.proofs.CallerLemmas.{no_level_at}
 use Rattle.sim_memory.specs.Steps.{IsRowAtMost, row_of, merged_of}
 use Rattle.sim_memory.proofs.CallerLemmas.{row_at, merged_at, merged_reached, merged_below}
 use Rattle.room_core.specs.Calls.{RoomState}
 use Rattle.room_core.specs.Fields.{StepMap, Fields, levels_at}
 use Rattle.room_core.specs.Reading.{AreFieldsOf}
-use Rattle.room_core.specs.Agreements.{HasAgreed, IsFixedAt, asks, greatest_step, has_out, is_clean, is_out, is_passed, outs_at}
+use Rattle.room_core.specs.Agreements.{HasAgreed, IsFixedAt, asks, greatest_step, has_out, is_resolved, is_out, is_passed, outs_at}
 use Rattle.room_core.specs.Agreements as passed
 use Rattle.room_core.specs.Contents.{IsDue, first_write, next_write}
 use Rattle.room_core.specs.Tracks.{KeepsTrack}
 use Rattle.room_core.proofs.fields.FieldCalls.{fields_stand}
 use Rattle.room_core.proofs.agreements.Sound.{fields_sound}
-use Rattle.room_core.proofs.agreements.Fixing.{IsPassed, clean, written, decided, fixed_at, passed_is_fixed, fixed_has_least}
+use Rattle.room_core.proofs.agreements.Fixing.{IsPassed, resolved, written, decided, fixed_at, passed_is_fixed, fixed_has_least}
 use Rattle.room_core.proofs.agreements.Exact.{room_entry, room_rows}
 use Rattle.room_core.proofs.moments.Contents.{written_is}
 use Rattle.room_core.proofs.values.Known.{IsKnown, decided_last, view_is, view_within}
@@ -34,8 +34,8 @@ either : (a b : Bool) → (a || b) ≡ true → (a ≡ true) ⊎ (b ≡ true)
 either true b is = inl refl
 either false b is = inr is
 
-clean_by : (levels : List ℕ) → has_level 2 levels ≡ true → has_level 1 levels ≡ false → IsClean levels
-clean_by levels two one =
+resolved_by : (levels : List ℕ) → has_level 2 levels ≡ true → has_level 1 levels ≡ false → IsResolved levels
+resolved_by levels two one =
     let at = Any-from_list_any (λ level. eqb level 2) levels two in
     record {
       simulator = at.0;
@@ -82,7 +82,7 @@ module _ (room : RoomState) (fields : Fields) (limits : IsWithinLimits room.spec
       omega arith
 
   pub passed_by : (j k : ℕ) → j < processes room.spec → is_passed room.spec fields j k ≡ true → IsPassed room.spec fields j k
-  passed_by j k within is = by_clean (either _ _ is)
+  passed_by j k within is = by_resolved (either _ _ is)
     where
       by_out : has_out room.spec fields j && eqb (greatest_step room.spec fields j) k ≡ true → IsPassed room.spec fields j k
       by_out both =
@@ -92,18 +92,18 @@ module _ (room : RoomState) (fields : Fields) (limits : IsWithinLimits room.spec
           let last = last_of out.0 j out.1 within out.2 in
           decided out.0 out.1 out.2 (omega (arith, same, last))
 
-      by_step : (is_clean room.spec fields j k ≡ true) ⊎ (ltb k (greatest_step room.spec fields j) ≡ true) → IsPassed room.spec fields j k
+      by_step : (is_resolved room.spec fields j k ≡ true) ⊎ (ltb k (greatest_step room.spec fields j) ≡ true) → IsPassed room.spec fields j k
       by_step (inl is') =
           let parts = and_parts _ _ is' in
-          clean (clean_by (levels_at room.spec fields j k) parts.0 (not-true _ parts.1))
+          resolved (resolved_by (levels_at room.spec fields j k) parts.0 (not-true _ parts.1))
       by_step (inr less) =
           let who = merged_reached room.spec.simulators fields.step j some in
           let less' : k < greatest_step room.spec fields j = ltb-true _ _ less in
           written who.0 who.1 (let e = who.2 in omega (arith, less', e))
 
-      by_clean : ((is_clean room.spec fields j k || ltb k (greatest_step room.spec fields j)) ≡ true) ⊎ (has_out room.spec fields j && eqb (greatest_step room.spec fields j) k ≡ true) → IsPassed room.spec fields j k
-      by_clean (inl is') = by_step (either _ _ is')
-      by_clean (inr both) = by_out both
+      by_resolved : ((is_resolved room.spec fields j k || ltb k (greatest_step room.spec fields j)) ≡ true) ⊎ (has_out room.spec fields j && eqb (greatest_step room.spec fields j) k ≡ true) → IsPassed room.spec fields j k
+      by_resolved (inl is') = by_step (either _ _ is')
+      by_resolved (inr both) = by_out both
 
   pub passed_fixed : (j k : ℕ) → j < processes room.spec → 1 ≤ k → is_passed room.spec fields j k ≡ true → IsFixedAt room.spec fields j k
   passed_fixed j k within first is =
@@ -143,7 +143,7 @@ module _ (room : RoomState) (fields : Fields) (limits : IsWithinLimits room.spec
       let own = own_entry j r within (omega arith) at in
       let most = within_steps j r j within (omega arith) at within in
       let counted : ltb k (greatest_step room.spec fields j) ≡ true = lt-ltb k (greatest_step room.spec fields j) (omega arith) in
-      or_left (is_clean room.spec fields j k || ltb k (greatest_step room.spec fields j)) _ (or_right (is_clean room.spec fields j k) _ counted)
+      or_left (is_resolved room.spec fields j k || ltb k (greatest_step room.spec fields j)) _ (or_right (is_resolved room.spec fields j k) _ counted)
 
   -- who has counted a write, and its value
   value_due : (p r : ℕ) → p < processes room.spec → 1 ≤ r → r ≤ greatest_step room.spec fields p → IsDue room.spec fields p r (passed.written room.spec fields p r)

@@ -7,9 +7,9 @@ use Rattle.protocol_lang.specs.Numbers.{greatest}
 use mathlib.Core.Logic.{dite}
 use native.Mathlib.Decide.{ℕ_discrete}
 use Rattle.room_spec.specs.Rooms.{RoomSpec, IsWithinLimits, is_reduction, processes}
-use Rattle.safe_agreement.specs.Levels.{IsClean}
+use Rattle.safe_agreement.specs.Levels.{IsResolved}
 use Rattle.safe_agreement.specs.Phases.{Phase, Before, before_all, IsFixed, HasTwoBeside, HaveSameTwos}
-use Rattle.safe_agreement.proofs.CallerLemmas.{resolved_to, clean_from, stays_fixed, keeps_twos, same_fixed, same_beside, stays_beside, beside_before, clean_is_fixed, same_of_same}
+use Rattle.safe_agreement.proofs.CallerLemmas.{resolved_to, is_resolved_by, stays_fixed, keeps_twos, same_fixed, same_beside, stays_beside, beside_before, resolved_is_fixed, same_of_same}
 use Rattle.std.specs.List.{range_with_len}
 use Rattle.simulator.specs.declared.goal.Goal.{Goal}
 use Rattle.simulator.specs.declared.goal.Goal.TheVariants as goals
@@ -47,8 +47,8 @@ beside_on m before after (steps_on change step) beside = stays_beside m before c
 -- an agreement with a choice is fixed
 pub chosen_is_fixed : (spec : RoomSpec) (fields : Fields) (p r chosen : ℕ) → KeepsTrack spec fields → chosen_at spec fields p r ≡ Some chosen → IsFixed spec.simulators (phases_in fields p r)
 chosen_is_fixed spec fields p r chosen tracks is =
-    clean_is_fixed spec.simulators (phases_in fields p r)
-    (subst IsClean (levels_are_phases spec fields tracks p r) (clean_from (levels_at spec fields p r) chosen (resolved_to (levels_at spec fields p r) chosen is)))
+    resolved_is_fixed spec.simulators (phases_in fields p r)
+    (subst IsResolved (levels_are_phases spec fields tracks p r) (is_resolved_by (levels_at spec fields p r) chosen (resolved_to (levels_at spec fields p r) chosen is)))
 
 -- ---- what is kept
 

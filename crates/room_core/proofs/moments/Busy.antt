@@ -11,7 +11,7 @@ use mathlib.Core.Logic.{dite}
 use native.Mathlib.Decide.{ℕ_discrete}
 use Rattle.room_spec.specs.Rooms.{RoomSpec, IsWithinLimits, is_reduction, processes}
 use Rattle.room_spec.specs.Sizes.{sizes_in}
-use Rattle.safe_agreement.specs.Levels.{IsClean}
+use Rattle.safe_agreement.specs.Levels.{IsResolved}
 use Rattle.safe_agreement.specs.Phases.{Before, Left}
 use Rattle.safe_agreement.proofs.CallerLemmas.{resolves, settles}
 use Rattle.sim_memory.specs.Steps.{merged_of}
@@ -217,10 +217,10 @@ module _ (spec : RoomSpec) (fields : Fields) (s : ℕ) (below : s < spec.simulat
     | inr nobody ↦
         let j = asking.process in
         let kind : is_reduction spec ≡ true = zero_kind spec (current_goal asking) asks.goal asks.left round in
-        let clean : IsClean (levels_at spec fields j 0) = subst IsClean (sym (levels_are_phases spec fields tracks j 0))
+        let resolved : IsResolved (levels_at spec fields j 0) = subst IsResolved (sym (levels_are_phases spec fields tracks j 0))
         (settles spec.simulators (phases_in fields j 0) s (fields.level s j 0) (sound.beside j 0 (inr (kind, asks.process))) below (asking_left asking asks 0 round)
         (λ a within one. nobody a within (level_is spec.rounds (fields.mind a) (fields.step a) (fields.level a) (tracks.told a) j 0 ∙ one))) in
-        let to = resolves (levels_at spec fields j 0) clean in
+        let to = resolves (levels_at spec fields j 0) resolved in
         let none' : chosen_at spec fields j 0 ≡ None = ap (λ (k : ℕ). chosen_at spec fields j k) (sym round) ∙ none in
         absurd (let wrong : None ≡ Some to.0 = sym none' ∙ to.1 in cc)
   ]

@@ -6,7 +6,7 @@ use Rattle.std.specs.List.{range_with_len}
 use Rattle.protocol_lang.specs.Meaning.{present}
 use Rattle.protocol_lang.specs.declared.meaning.Action.TheVariants as actions
 use Rattle.room_spec.specs.Rooms.{IsCertified, RoomSpec, IsWithinLimits, is_reduction, processes}
-use Rattle.room_core.specs.Agreements.{IsFixedAt, asks, greatest_step, has_out, is_clean, is_passed, row_at, shown}
+use Rattle.room_core.specs.Agreements.{IsFixedAt, asks, greatest_step, has_out, is_resolved, is_passed, row_at, shown}
 use Rattle.room_core.specs.Calls.{RoomState}
 use Rattle.room_core.specs.Fields.{Fields, fields_after_settle}
 use Rattle.room_core.specs.Reading.{AreFieldsOf}
@@ -40,16 +40,16 @@ module _ (room : RoomState) (fields : Fields) (limits : IsWithinLimits room.spec
       let few = few_present room fields limits are f certified j k v is in
       absurd (omega (arith, count, few))
 
-  clean_passed : (j : ℕ) → is_clean room.spec fields j room.spec.rounds ≡ true → is_passed room.spec fields j room.spec.rounds ≡ true
-  clean_passed j clean = passed_by (is_clean room.spec fields j room.spec.rounds) (ltb room.spec.rounds (greatest_step room.spec fields j)) (has_out room.spec fields j && eqb (greatest_step room.spec fields j) room.spec.rounds) clean
+  resolved_passed : (j : ℕ) → is_resolved room.spec fields j room.spec.rounds ≡ true → is_passed room.spec fields j room.spec.rounds ≡ true
+  resolved_passed j resolved = passed_by (is_resolved room.spec fields j room.spec.rounds) (ltb room.spec.rounds (greatest_step room.spec fields j)) (has_out room.spec fields j && eqb (greatest_step room.spec fields j) room.spec.rounds) resolved
 
   -- and with two rounds or more none is spent
-  pub never_spent : (j v : ℕ) → 2 ≤ room.spec.rounds → j < processes room.spec → is_clean room.spec fields j room.spec.rounds ≡ true → asks room.spec fields j room.spec.rounds ≡ actions.Write v → ⊥
-  never_spent j v two within clean is = asks_no_write j room.spec.rounds v within two (passed_fixed room fields limits are j room.spec.rounds within (omega (arith, two)) (clean_passed j clean)) is
+  pub never_spent : (j v : ℕ) → 2 ≤ room.spec.rounds → j < processes room.spec → is_resolved room.spec fields j room.spec.rounds ≡ true → asks room.spec fields j room.spec.rounds ≡ actions.Write v → ⊥
+  never_spent j v two within resolved is = asks_no_write j room.spec.rounds v within two (passed_fixed room fields limits are j room.spec.rounds within (omega (arith, two)) (resolved_passed j resolved)) is
 
   pub decided_or_held : (j : ℕ) → 2 ≤ room.spec.rounds → j < processes room.spec → IsSettledFor room.spec fields j → IsDecidedOrHeld room.spec fields j
   decided_or_held j two within (decided out) = has_decided out
-  decided_or_held j two within (spent v clean is) = absurd (never_spent j v two within clean is)
+  decided_or_held j two within (spent v resolved is) = absurd (never_spent j v two within resolved is)
   decided_or_held j two within (held i k below crashed first last one) = is_held i k below crashed first last one
   decided_or_held j two within (held_input i kind below crashed one) = absurd (let wrong : true ≡ false = sym kind ∙ ordinary in cc)
 

@@ -13,7 +13,7 @@ use Rattle.protocol_lang.specs.declared.meaning.Action.TheVariants as actions
 use Rattle.room_spec.specs.Rooms.{IsCertified, RoomSpec, IsWithinLimits, is_reduction, processes}
 use Rattle.sim_memory.specs.Steps.{merged_of}
 use Rattle.sim_memory.proofs.CallerLemmas.{merged_at, merged_reached, row_at}
-use Rattle.room_core.specs.Agreements.{IsFixedAt, asks, greatest_step, has_out, is_clean, shown, shown_by, view_at}
+use Rattle.room_core.specs.Agreements.{IsFixedAt, asks, greatest_step, has_out, is_resolved, shown, shown_by, view_at}
 use Rattle.room_core.specs.Agreements as agreed
 use Rattle.room_core.specs.Calls.{RoomState}
 use Rattle.room_core.specs.Fields.{StepMap, Fields, fields_after_settle, opening_fields, replay_fields}
@@ -84,10 +84,10 @@ module _ (room : RoomState) (fields : Fields) (limits : IsWithinLimits room.spec
       omega (arith, few, all, there)
 
   module _ (f : ℕ) (certified : IsCertified room.spec f) (few : room.spec.simulators ≤ f + 1) where
-    pub unspent : (j v : ℕ) → 2 ≤ room.spec.rounds → j < processes room.spec → is_clean room.spec fields j room.spec.rounds ≡ true → asks room.spec fields j room.spec.rounds ≡ actions.Write v → ⊥
-    unspent j v two within clean is =
+    pub unspent : (j v : ℕ) → 2 ≤ room.spec.rounds → j < processes room.spec → is_resolved room.spec fields j room.spec.rounds ≡ true → asks room.spec fields j room.spec.rounds ≡ actions.Write v → ⊥
+    unspent j v two within resolved is =
         let k = room.spec.rounds in
-        let fixed = passed_fixed room fields limits are j k within (omega (arith, two)) (passed_by (is_clean room.spec fields j k) (ltb k (greatest_step room.spec fields j)) (has_out room.spec fields j && eqb (greatest_step room.spec fields j) k) clean) in
+        let fixed = passed_fixed room fields limits are j k within (omega (arith, two)) (passed_by (is_resolved room.spec fields j k) (ltb k (greatest_step room.spec fields j)) (has_out room.spec fields j && eqb (greatest_step room.spec fields j) k) resolved) in
         let most = shows_most j k within two fixed in
         let fewer = few_present room fields limits are f certified j k v is in
         absurd (omega (arith, most, fewer, few))
@@ -95,7 +95,7 @@ module _ (room : RoomState) (fields : Fields) (limits : IsWithinLimits room.spec
     -- so each process that has settled has decided or is blocked
     pub decided_or_blocked : (j : ℕ) → 2 ≤ room.spec.rounds → j < processes room.spec → IsSettledFor room.spec fields j → (has_out room.spec fields j ≡ true) ⊎ (is_blocked room.spec fields j ≡ true)
     decided_or_blocked j two within (decided out) = inl out
-    decided_or_blocked j two within (spent v clean is) = absurd (unspent j v two within clean is)
+    decided_or_blocked j two within (spent v resolved is) = absurd (unspent j v two within resolved is)
     decided_or_blocked j two within (held i k below crashed first last one) = inr (inside_blocks room.spec fields i j k below crashed last one)
     decided_or_blocked j two within (held_input i kind' below crashed one) = inr (inside_blocks room.spec fields i j 0 below crashed (omega arith) one)
 
@@ -121,11 +121,11 @@ most_for room fields limits are kind f certified few two left =
 
 -- In an ordinary room, and in a reduction with f + 1 simulators or fewer, no process is spent.
 pub none_spent : (room : RoomState) (fields : Fields) → IsWithinLimits room.spec → AreFieldsOf room fields → (f : ℕ) → IsCertified room.spec f → (is_reduction room.spec ≡ false) ⊎ (room.spec.simulators ≤ f + 1)
-    → (j v : ℕ) → 2 ≤ room.spec.rounds → j < processes room.spec → is_clean room.spec fields j room.spec.rounds ≡ true → asks room.spec fields j room.spec.rounds ≡ actions.Write v → ⊥
+    → (j v : ℕ) → 2 ≤ room.spec.rounds → j < processes room.spec → is_resolved room.spec fields j room.spec.rounds ≡ true → asks room.spec fields j room.spec.rounds ≡ actions.Write v → ⊥
 none_spent room fields limits are f certified which = by_kind (is_reduction room.spec) refl which
   where
     by_kind : (b : Bool) → is_reduction room.spec ≡ b → (b ≡ false) ⊎ (room.spec.simulators ≤ f + 1)
-        → (j v : ℕ) → 2 ≤ room.spec.rounds → j < processes room.spec → is_clean room.spec fields j room.spec.rounds ≡ true → asks room.spec fields j room.spec.rounds ≡ actions.Write v → ⊥
-    by_kind false kind which j v two within clean is = never_spent room fields limits are f certified kind j v two within clean is
-    by_kind true kind (inl ordinary) j v two within clean is = absurd (let wrong : true ≡ false = ordinary in cc)
-    by_kind true kind (inr few) j v two within clean is = unspent room fields limits are kind f certified few j v two within clean is
+        → (j v : ℕ) → 2 ≤ room.spec.rounds → j < processes room.spec → is_resolved room.spec fields j room.spec.rounds ≡ true → asks room.spec fields j room.spec.rounds ≡ actions.Write v → ⊥
+    by_kind false kind which j v two within resolved is = never_spent room fields limits are f certified kind j v two within resolved is
+    by_kind true kind (inl ordinary) j v two within resolved is = absurd (let wrong : true ≡ false = ordinary in cc)
+    by_kind true kind (inr few) j v two within resolved is = unspent room fields limits are kind f certified few j v two within resolved is

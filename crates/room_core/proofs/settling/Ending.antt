@@ -13,7 +13,7 @@ use Rattle.safe_agreement.proofs.CallerLemmas.{has_level_at, no_level_from}
 use Rattle.room_core.specs.Calls.{RoomState}
 use Rattle.room_core.specs.Fields.{Fields, levels_at, fields_after_settle}
 use Rattle.room_core.specs.Reading.{AreFieldsOf}
-use Rattle.room_core.specs.Agreements.{IsFixedAt, asks, is_out, outs_at, has_out, is_clean}
+use Rattle.room_core.specs.Agreements.{IsFixedAt, asks, is_out, outs_at, has_out, is_resolved}
 use Rattle.room_core.specs.Settled.{HasTurnLeft, IsSettledFor, decided, spent, held, held_input, IsSettledInMind, mind_decided, mind_spent, mind_waits, mind_waits_for_input}
 use Rattle.room_core.proofs.settling.Decisions.{mind_ranges}
 use Rattle.room_core.proofs.settling.EachDecides.{each_settled}
@@ -28,8 +28,8 @@ out_there spec fields j a below out =
     let read : get_or (outs_at spec fields j) a 0 ≡ fields.out a j = get_or-map-range_with_len (λ i. fields.out i j) 0 spec.simulators a a 0 below (omega arith) in
     list_any_at is_out (outs_at spec fields j) a 0 (omega arith) (ap is_out read ∙ ap not (ne_eqb (fields.out a j) 0 out))
 
-clean_there : (spec : RoomSpec) (fields : Fields) (j k a : ℕ) → a < spec.simulators → fields.level a j k ≡ 2 → ((b : ℕ) → b < spec.simulators → fields.level b j k ≢ 1) → is_clean spec fields j k ≡ true
-clean_there spec fields j k a below two none =
+resolved_there : (spec : RoomSpec) (fields : Fields) (j k a : ℕ) → a < spec.simulators → fields.level a j k ≡ 2 → ((b : ℕ) → b < spec.simulators → fields.level b j k ≢ 1) → is_resolved spec fields j k ≡ true
+resolved_there spec fields j k a below two none =
     let levels = levels_at spec fields j k in
     let long = length-map-range_with_len (λ i. fields.level i j k) 0 spec.simulators in
     let read : (b : ℕ) → b < spec.simulators → get_or levels b 0 ≡ fields.level b j k = λ b within. get_or-map-range_with_len (λ i. fields.level i j k) 0 spec.simulators b b 0 within (omega arith) in
@@ -40,7 +40,7 @@ clean_there spec fields j k a below two none =
 passed_by : (spec : RoomSpec) (fields : Fields) (j value : ℕ) → ((a : ℕ) → a < spec.simulators → fields.level a j spec.rounds ≡ 1 → fields.crashed a ≡ true) → 1 ≤ spec.rounds → IsFixedAt spec fields j spec.rounds → asks spec fields j spec.rounds ≡ actions.Write value → IsSettledFor spec fields j
 passed_by spec fields j value crashed low fixed action = elim (one_or_none spec.simulators (λ a. fields.level a j spec.rounds)) [
   | inl one ↦ held one.0 spec.rounds one.1 (crashed one.0 one.1 one.2) low (omega arith) one.2
-  | inr none ↦ spent value (clean_there spec fields j spec.rounds fixed.simulator fixed.below fixed.two none) action
+  | inr none ↦ spent value (resolved_there spec fields j spec.rounds fixed.simulator fixed.below fixed.two none) action
 ]
 
 -- as one simulator knows it, so it is

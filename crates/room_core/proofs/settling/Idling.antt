@@ -5,7 +5,7 @@ use mathlib.Core.Logic.{dite}
 use native.Mathlib.Decide.{ℕ_discrete}
 use Rattle.room_spec.specs.Rooms.{IsWithinLimits, processes}
 use Rattle.room_spec.specs.Sizes.{sizes_in}
-use Rattle.safe_agreement.specs.Levels.{IsClean}
+use Rattle.safe_agreement.specs.Levels.{IsResolved}
 use Rattle.safe_agreement.specs.Phases.{Before, Left}
 use Rattle.safe_agreement.proofs.CallerLemmas.{resolves, settles}
 use Rattle.simulator.specs.declared.goal.Goal.{Goal}
@@ -106,10 +106,10 @@ module _ (room : RoomState) (fields : Fields) (limits : IsWithinLimits room.spec
           let spec = room.spec in
           let tracks = (fields_stand room fields limits are).tracks in
           let sound = fields_sound room fields limits are in
-          let clean : IsClean (levels_at spec fields j k) = subst IsClean (sym (levels_are_phases spec fields tracks j k))
+          let resolved : IsResolved (levels_at spec fields j k) = subst IsResolved (sym (levels_are_phases spec fields tracks j k))
           (settles spec.simulators (phases_in fields j k) i (fields.level i j k) (sound.beside j k low) below (left_here j k begun same)
           (λ a within one. nobody a within (level_is spec.rounds (fields.mind a) (fields.step a) (fields.level a) (tracks.told a) j k ∙ one))) in
-          let to = resolves (levels_at spec fields j k) clean in
+          let to = resolves (levels_at spec fields j k) resolved in
           absurd (let wrong : None ≡ Some to.0 = sym none ∙ to.1 in cc)
     ]
 

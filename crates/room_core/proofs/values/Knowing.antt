@@ -18,7 +18,7 @@ use Rattle.protocol_lang.specs.declared.meaning.Action.TheVariants as actions
 use Rattle.protocol_lang.specs.Numbers.{greatest}
 use Rattle.protocol_lang.specs.Meaning.{first_value}
 use Rattle.room_spec.specs.Rooms.{RoomSpec, IsWithinLimits, is_reduction, processes}
-use Rattle.safe_agreement.proofs.CallerLemmas.{resolved_to, clean_from, resolves_least}
+use Rattle.safe_agreement.proofs.CallerLemmas.{resolved_to, is_resolved_by, resolves_least}
 use Rattle.sim_memory.specs.Steps.{AreAtMost}
 use Rattle.simulator.specs.declared.goal.Goal.{Goal}
 use Rattle.simulator.specs.declared.goal.Goal.TheVariants as goals
@@ -93,11 +93,11 @@ module _ (spec : RoomSpec) (fields : Fields) (tracks : KeepsTrack spec fields) (
       let same : ◌≡◌ {A = ℕ} found chosen = at.1 in
       let j = asking.process in
       let k = current_round asking in
-      let clean = clean_from (levels_at spec fields j k) found (resolved_to (levels_at spec fields j k) found some) in
+      let resolved = is_resolved_by (levels_at spec fields j k) found (resolved_to (levels_at spec fields j k) found some) in
       record {
         fixed = fixed_at spec fields tracks j k (chosen_is_fixed spec fields j k found tracks some);
         first = at.0;
-        is = sym (resolves_least (levels_at spec fields j k) clean) ∙ some ∙ ap Some same;
+        is = sym (resolves_least (levels_at spec fields j k) resolved) ∙ some ∙ ap Some same;
       }
   chosen_new after chosen (gathers reading reads more) is = absurd cc
   chosen_new after chosen (goes_to reading given reads all action) is = absurd cc

@@ -3,7 +3,7 @@ use Rattle.room_core.proofs.settling.CertifiedReductions.{decided_or_blocked, mo
 use Rattle.room_core.proofs.laws.certified_reductions_decide.Goals as goal
 
 pub returns-clause-unspent : goal.returns-clause-unspent
-returns-clause-unspent c = λ room fields limits are kind f certified few j value two within clean is. unspent room fields limits are kind f certified few j value two within clean is
+returns-clause-unspent c = λ room fields limits are kind f certified few j value two within resolved is. unspent room fields limits are kind f certified few j value two within resolved is
 
 pub returns-clause-settled : goal.returns-clause-settled
 returns-clause-settled c = λ room fields limits are kind f certified few j two within settled. decided_or_blocked room fields limits are kind f certified few j two within settled

@@ -1,6 +1,6 @@
 use Rattle.std.proofs.Common.{arith}
 use Rattle.room_search.proofs.Moving.{goes_not, goes_on}
-use Rattle.room_search.proofs.Sets.{longer}
+use Rattle.room_search.proofs.Sets.{longer, place_of}
 use Rattle.room_search.proofs.closing.close.Goals as goal
 
 pub returns-then-has_crashed-clause-moves : goal.returns-then-has_crashed-clause-moves
@@ -21,6 +21,9 @@ go_alone-requires-clause-said c = let more = longer c.args.moves.now.said.keys c
 
 pub go_alone-requires-clause-numbers : goal.go_alone-requires-clause-numbers
 go_alone-requires-clause-numbers c = c.loop-at.invariant.numbers
+
+pub go_alone-requires-clause-number : goal.go_alone-requires-clause-number
+go_alone-requires-clause-number c = c.loop-at.invariant.numbers c.index.result.now (place_of c.loop-at.set.items c.loop-at.at c.index.result.now (omega (arith, c.loop-at-test.true, c.len.ensures)) c.index.ensures)
 
 pub loop-at-preserved : goal.loop-at-preserved
 loop-at-preserved c = record {

@@ -1,10 +1,7 @@
 use Rattle.std.proofs.Common.{subst}
 use Rattle.room_search.specs.Moving.{IsWithinLead}
-use Rattle.room_search.proofs.Sets.{numbers_grown, numbers_put, place_of}
+use Rattle.room_search.proofs.Sets.{numbers_grown, numbers_put}
 use Rattle.room_search.proofs.closing.go_alone.Goals as goal
-
-pub lead-requires-clause-number : goal.lead-requires-clause-number
-lead-requires-clause-number c = c.requires.numbers c.index.result.now (place_of c.args.set.now.items c.args.at c.index.result.now c.requires.there c.index.ensures)
 
 pub returns-in_default-clause-numbers : goal.returns-in_default-clause-numbers
 returns-in_default-clause-numbers c = numbers_grown c.args.moves.now.table.keys c.lead.new.self.table.keys c.args.set.now.items c.in_ok-lead.ensures.moves.table c.requires.numbers
@@ -15,5 +12,5 @@ returns-in_ok-put-clause-numbers c =
     let within = subst (IsWithinLead new.said.keys new.table.keys) c.in-To.is c.in_ok-lead.ensures.within in
     numbers_put new.table.keys c.args.set.now.items c.put.new.set.items c.in-To.number c.in_ok-put.ensures.added within.1 (numbers_grown c.args.moves.now.table.keys new.table.keys c.args.set.now.items c.in_ok-lead.ensures.moves.table c.requires.numbers)
 
-pub returns-else-after-said-clause-numbers : goal.returns-else-after-said-clause-numbers
-returns-else-after-said-clause-numbers c = numbers_grown c.args.moves.now.table.keys c.lead.new.self.table.keys c.args.set.now.items c.in_ok-lead.ensures.moves.table c.requires.numbers
+pub returns-else-after-from-clause-numbers : goal.returns-else-after-from-clause-numbers
+returns-else-after-from-clause-numbers c = numbers_grown c.args.moves.now.table.keys c.lead.new.self.table.keys c.args.set.now.items c.in_ok-lead.ensures.moves.table c.requires.numbers

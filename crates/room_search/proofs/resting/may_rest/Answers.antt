@@ -1,6 +1,5 @@
 use Rattle.std.proofs.Common.{sym, ap, ◌∙◌, arith}
 use Rattle.std.proofs.lemmas.Bool.{true≢false}
-use Rattle.simulator.specs.Minds.{MindState, goal_at}
 use Rattle.room_search.specs.Resting.{waits}
 use Rattle.room_search.proofs.resting.may_rest.Goals as goal
 
@@ -8,4 +7,4 @@ pub returns-then-not-may_wait : goal.returns-then-not-may_wait
 returns-then-not-may_wait c = λ yes words says rests.
     let spec = c.args.subject.now.spec.now in
     let so = rests c.loop-j.j (omega (arith, c.loop-j-test.true, c.n-j-end.ensures.value)) in
-    true≢false (sym so ∙ ap (λ (m : MindState). waits spec words c.loop-j.j (goal_at m.goals c.loop-j.j)) (sym c.knowing-mind.ensures) ∙ ap (waits spec words c.loop-j.j) (sym c.goal.ensures) ∙ c.may_wait.ensures c.if-not-may_wait.true words says)
+    true≢false (sym so ∙ ap (waits spec words c.loop-j.j) (sym c.goal.ensures) ∙ c.may_wait.ensures c.if-not-may_wait.true words says)

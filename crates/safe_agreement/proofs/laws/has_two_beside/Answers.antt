@@ -11,5 +11,5 @@ returns-clause-stays c = λ m before change after step beside. stays_beside m be
 pub returns-clause-stays_on : goal.returns-clause-stays_on
 returns-clause-stays_on c = λ m phases changes legal beside. stays_beside_on m phases changes legal beside
 
-pub returns-clause-clean : goal.returns-clause-clean
-returns-clause-clean c = λ m phases i level beside below left quiet. settles m phases i level beside below left quiet
+pub returns-clause-resolved : goal.returns-clause-resolved
+returns-clause-resolved c = λ m phases i level beside below left quiet. settles m phases i level beside below left quiet

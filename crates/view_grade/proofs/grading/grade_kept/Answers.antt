@@ -13,5 +13,5 @@ returns-clause-text c =
     let played = c.in_ok-follower.field-0 in
     let new = c.new.ensures in
     let none : kept_of c.new.result ≡ nothing_kept = λ i. record { graded = record { last = new.last i; moves = new.moves i }; watched = record { entries = new.entries i; found = new.broken i } } in
-    script_kept (λ k. k.task.now) (λ k. k.script.now) kept_of c.args.goal.now c.args.most c.args.task.now c.args.script.now c.new.result played.service played.follower played.ending c.graded_ending-ending.result c.in_ok-output.output new.task new.script none
+    script_kept (λ k. k.task.now) (λ k. k.script.now) kept_of c.args.aim.now.json c.args.aim.now.goal.now c.args.aim.now.most c.args.task.now c.args.script.now c.new.result played.service played.follower played.ending c.graded_ending-ending.result c.in_ok-output.output new.task new.script none
     c.in_ok-follower.ensures.played c.in_ok-output.ensures (c.graded_ending-ending.ensures ∙ ap (graded_ending played.ending) c.is_kept_reached.ensures)

@@ -1,6 +1,6 @@
 use Rattle.std.proofs.Common.{◌≡◌, ◌∙◌, ◌/◌, ◌<◌, ◌%◌, ◌+◌, ◌++◌, [], ◌∷◌, List, ℕ, decimal, ap, arith}
 use Rattle.std.proofs.lemmas.Fmt.{decimal_digit, decimal_step}
-use Rattle.io_text.proofs.text.Text.put_number.Goals as goal
+use Rattle.io_text.proofs.text.Text.put_spaced_number.Goals as goal
 
 pub returns-then-value-lt10-clause-text : goal.returns-then-value-lt10-clause-text
 returns-then-value-lt10-clause-text c = rw (decimal_digit c.args.value c.if-value-lt10.true) c.put.ensures.text

@@ -6,7 +6,7 @@ use Rattle.std.proofs.lemmas.Bool.{eqb-true, eqb-false, eq-eqb, ne_eqb, both_way
 use Rattle.std.proofs.lemmas.List.Folds.{list_any_at, list_any_none}
 use Rattle.std.proofs.lemmas.List.Sums.{fails_before_first, prefix_len_passes}
 use Rattle.std.proofs.lemmas.List.Quantifiers.{position-Some}
-use Rattle.safe_agreement.specs.Levels.{has_level, IsClean, IsResolvedTo, least_two, resolved_of}
+use Rattle.safe_agreement.specs.Levels.{has_level, IsResolved, IsResolvedTo, least_two, resolved_of}
 
 -- ---- whether a level is there
 
@@ -71,7 +71,7 @@ same_by_order levels others i k same at at' (inr (inr before)) = absurd (at.leas
 pub same_least : (levels others : List ℕ) (i k : ℕ) → SameTwos levels others → IsLeastTwo levels i → IsLeastTwo others k → i ≡ k
 same_least levels others i k same at at' = same_by_order levels others i k same at at' (cases_order i k)
 
--- ---- a clean agreement
+-- ---- a resolved agreement
 
 guarded : (b : Bool) (place : Option ℕ) (i : ℕ) → cond b None place ≡ Some i → (b ≡ false) × (place ≡ Some i)
 guarded true place i is = absurd cc
@@ -83,20 +83,20 @@ resolved_to levels simulator is =
     let least = least_two_is levels simulator parts.1 in
     record { below = least.below; two = least.two; least = least.least; no_one = λ i below. no_level_at 1 levels i parts.0 below }
 
-pub clean_from : (levels : List ℕ) (simulator : ℕ) → IsResolvedTo levels simulator → IsClean levels
-clean_from levels simulator to = record { simulator = simulator; below = to.below; two = to.two; no_one = to.no_one }
+pub is_resolved_by : (levels : List ℕ) (simulator : ℕ) → IsResolvedTo levels simulator → IsResolved levels
+is_resolved_by levels simulator to = record { simulator = simulator; below = to.below; two = to.two; no_one = to.no_one }
 
-pub resolves_least : (levels : List ℕ) → IsClean levels → resolved_of levels ≡ least_two levels
-resolves_least levels clean = rw (no_level_from 1 levels clean.no_one) refl
+pub resolves_least : (levels : List ℕ) → IsResolved levels → resolved_of levels ≡ least_two levels
+resolves_least levels resolved = rw (no_level_from 1 levels resolved.no_one) refl
 
-pub resolves : (levels : List ℕ) → IsClean levels → (k : ℕ) × (resolved_of levels ≡ Some k)
-resolves levels clean =
-    let found = least_two_found levels clean.simulator clean.below clean.two in
-    (found.0, resolves_least levels clean ∙ found.1)
+pub resolves : (levels : List ℕ) → IsResolved levels → (k : ℕ) × (resolved_of levels ≡ Some k)
+resolves levels resolved =
+    let found = least_two_found levels resolved.simulator resolved.below resolved.two in
+    (found.0, resolves_least levels resolved ∙ found.1)
 
 pub resolved_from : (levels : List ℕ) (simulator : ℕ) → IsResolvedTo levels simulator → resolved_of levels ≡ Some simulator
 resolved_from levels simulator to =
-    let found = resolves levels (clean_from levels simulator to) in
+    let found = resolves levels (is_resolved_by levels simulator to) in
     let to' = resolved_to levels found.0 found.1 in
     let same = same_least levels levels found.0 simulator (record { length_is = refl; two_is = λ i below. (λ e. e, λ e. e) }) (record { below = to'.below; two = to'.two; least = to'.least }) (record { below = to.below; two = to.two; least = to.least }) in
     found.1 ∙ ap Some same
@@ -108,6 +108,6 @@ found_in levels None is = tt
 no_some : (i : ℕ) → ◌≡◌ {A = Option ℕ} None (Some i) → ⊥
 no_some i is = cc
 
-pub none_in : (levels : List ℕ) (result : Option ℕ) → result ≡ resolved_of levels → IfNone result (IsClean levels → ⊥)
+pub none_in : (levels : List ℕ) (result : Option ℕ) → result ≡ resolved_of levels → IfNone result (IsResolved levels → ⊥)
 none_in levels (Some simulator) is = tt
-none_in levels None is = λ clean. let found = resolves levels clean in no_some found.0 (is ∙ found.1)
+none_in levels None is = λ resolved. let found = resolves levels resolved in no_some found.0 (is ∙ found.1)
