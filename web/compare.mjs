@@ -28,7 +28,7 @@ if (!given) {
   process.exit(2);
 }
 // A room at random may have so many outcomes that the list doesn't fit into the module's memory, so fewer nodes are searched there.
-const NODES = given.some === Infinity ? 20000 : 1000;
+const NODES = given.some === Infinity ? 20000 : 300;
 // The numbers of the faults of protocols and of tasks, by what the program says of them.
 const SENTENCES = new Map(execFileSync('bgview', ['fault', '1', '2', '3', '4', '5', '6', '7', '8'], { encoding: 'utf8' }).trim().split('\n').map(line => line.split(': ')).map(([number, ...words]) => [words.join(': '), number]));
 // For each the call, the program's words, the options of the call, and whether its answer is what the program writes to standard error.
