@@ -12,7 +12,8 @@ import { load } from '/bgview.mjs';
 import { differing } from '/judging.mjs';
 const post = (path, what) => fetch(path, { method: 'POST', body: JSON.stringify(what) });
 try {
-  const view = await load(await (await fetch('/module')).arrayBuffer());
+  const memory = await (await fetch('/memory')).json();
+  const view = await load(await (await fetch('/module')).arrayBuffer(), memory);
   for (;;) {
     const files = await (await fetch('/files')).json();
     if (files.length === 0) break;
@@ -36,13 +37,14 @@ async function bodyOf(request) {
 }
 
 // Answers the page's requests, up to the one with which it ends: what it is, and what differs.
-function serve(server, module, files) {
+function serve(server, module, files, memory) {
   const code = name => readFileSync(new URL(name, import.meta.url));
   const given = {
     '/': ['text/html', () => PAGE],
     '/bgview.mjs': ['text/javascript', () => code('bgview.mjs')],
     '/judging.mjs': ['text/javascript', () => code('judging.mjs')],
     '/module': ['application/wasm', () => module],
+    '/memory': ['application/json', () => JSON.stringify(memory)],
     '/files': ['application/json', () => JSON.stringify(files.splice(0, AT_ONCE))],
   };
   const found = [];
@@ -71,14 +73,15 @@ function serve(server, module, files) {
 }
 
 // What differs in a browser, and which one it is.
-export async function inBrowser(program, module, files) {
+// `memory` is how the page loads the module.
+export async function inBrowser(program, module, files, memory) {
   const folder = mkdtempSync(join(tmpdir(), 'bgview-'));
   const server = createServer();
   await new Promise(resolve => server.listen(0, '127.0.0.1', resolve));
   const browser = spawn(program, [...wordsFor(program, folder), `http://127.0.0.1:${server.address().port}/`], { stdio: 'ignore' });
   const ended = new Promise(resolve => browser.on('error', resolve).on('exit', resolve)).then(() => server.emit('ended'));
   try {
-    return await serve(server, module, [...files]);
+    return await serve(server, module, [...files], memory);
   } finally {
     browser.kill();
     await ended;

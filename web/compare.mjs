@@ -27,8 +27,9 @@ if (!given) {
   console.error('usage: node web/compare.mjs [--some N] [--in BROWSER] MODULE FILE..');
   process.exit(2);
 }
-// A room at random may have so many outcomes that the list doesn't fit into the module's memory, so fewer nodes are searched there.
-const NODES = given.some === Infinity ? 20000 : 300;
+// A room at random may have so many outcomes that the list doesn't fit into the module's memory, so fewer nodes are searched there, and it gets 2 GiB.
+const NODES = given.some === Infinity ? 20000 : 1000;
+const memory = given.some === Infinity ? {} : { most: 2 ** 31 };
 // The numbers of the faults of protocols and of tasks, by what the program says of them.
 const SENTENCES = new Map(execFileSync('bgview', ['fault', '1', '2', '3', '4', '5', '6', '7', '8'], { encoding: 'utf8' }).trim().split('\n').map(line => line.split(': ')).map(([number, ...words]) => [words.join(': '), number]));
 // For each the call, the program's words, the options of the call, and whether its answer is what the program writes to standard error.
@@ -95,7 +96,7 @@ const total = count * files.length;
 const module = readFileSync(given.module);
 
 async function inNode() {
-  return { engine: `node ${process.version}`, found: await differing(await load(module), files) };
+  return { engine: `node ${process.version}`, found: await differing(await load(module, memory), files) };
 }
 
 function differences({ engine, found }) {
@@ -107,7 +108,7 @@ function differences({ engine, found }) {
 let faults = differences(await inNode());
 if (given.browser) {
   try {
-    faults += differences(await inBrowser(given.browser, module, files));
+    faults += differences(await inBrowser(given.browser, module, files, memory));
   } catch (error) {
     console.log(`${given.browser}: ${error.message}`);
     faults++;
